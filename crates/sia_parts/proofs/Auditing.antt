@@ -7,7 +7,6 @@ pub mod KeyLemmas
 pub mod KeyNumbers
 pub mod LogWrites
 pub mod Members
-pub mod PartReads
 pub mod Passing
 pub mod Positions
 pub mod RangeCovers

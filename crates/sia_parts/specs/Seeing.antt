@@ -15,8 +15,9 @@ use Rattle.sia_parts.specs.declared.audit.sights.Known.{Known}
 use Rattle.sia_parts.specs.declared.audit.ranges.Cover.{Cover}
 use Rattle.sia_parts.specs.declared.audit.sights.Scope.{Scope}
 use Rattle.sia_parts.specs.declared.audit.sights.Seen.{Seen}
-use Rattle.sia_parts.specs.Sights.{Sight, Adds, FromSome, FromSight, IsSight, IsBadOf, LooksAt}
+use Rattle.sia_parts.specs.Sights.{Sight, Adds, FromSome, FromSight, IsSight, IsBadOf, IsUnexplainedOf, LooksAt}
 use Rattle.sia_parts.specs.declared.audit.sights.View.{View}
+use Rattle.sia_parts.specs.declared.audit.sights.WrongReads.{WrongReads}
 use Rattle.sia_parts.specs.declared.accesses.RangeMiss.{RangeMiss}
 use Rattle.sia_parts.specs.Accesses.{IsPassedBy}
 use Rattle.sia_parts.specs.Parts.{IsInPart}
@@ -57,9 +58,14 @@ IsPlaced h row = HasPosition h row.1
 abbrev pub IsMiss : ℕ × RangeMiss → Type 0
 IsMiss row = row.1.from < row.1.to
 
+-- the new one has what the old one had, and the wrong reads that sights with P are, and nothing else
+pub record AddsWrong (h : List Event) (P : Sight → Type 0) (old new : WrongReads) : Type 0 where
+  pub bad_reads : Adds (FromSight P (IsBadOf h)) old.bad_reads.items new.bad_reads.items
+  pub unexplained : Adds (FromSight P (IsUnexplainedOf h)) old.unexplained.items new.unexplained.items
+
 -- the new one has what the old one had, and what the sights with P give, and nothing else
 pub record Gains (h : List Event) (P : Sight → Type 0) (old new : Seen) : Type 0 where
-  pub bad_reads : Adds (FromSight P (IsBadOf h)) old.bad_reads.items new.bad_reads.items
+  pub wrong : AddsWrong h P old.wrong new.wrong
   pub looks : (at : ℕ × ℕ × ℕ) → HasSeenAt h new at ↔ (HasSeenAt h old at ⊎ FromSight P (LooksAt h) at)
   pub placed : All (IsPlaced h) old.saw → All (IsPlaced h) new.saw
   pub some : All IsMiss old.missed → All IsMiss new.missed
@@ -68,10 +74,18 @@ pub record Gains (h : List Event) (P : Sight → Type 0) (old new : Seen) : Type
 abbrev pub IsPositionOf : List Event → ℕ → ℕ → ℕ → Type 0
 IsPositionOf h k v q = (w : KeyVersion) × IsAtPosition h q w × (w.key ≡ k) × (w.txn ≡ v)
 
+-- the version of a transaction that didn't commit
+abbrev pub IsLoose : List Event → ℕ → Type 0
+IsLoose h v = (v ≢ 0) × ¬ IsCommitted h v
+
+-- what the reader saw of a key
+abbrev pub sight_of : Known → ℕ → ℕ → Sight
+sight_of known k v = record { place = known.reader.place; txn = known.reader.txn; key = k; saw = v }
+
 -- version v of k stands where it is said, and nowhere where it didn't commit
 pub record IsVersionAt (h : List Event) (k v : ℕ) (at : WriteAt) : Type 0 where
   pub key : IsKeyAt h at.key k
-  pub position : MatchOption at.position ((v ≢ 0) × ¬ IsCommitted h v) (IsPositionOf h k v)
+  pub position : MatchOption at.position (IsLoose h v) (IsPositionOf h k v)
 
 -- the reader saw the version at its place
 pub record IsView (h : List Event) (known : Known) (view : View) : Type 0 where

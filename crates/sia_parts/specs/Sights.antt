@@ -42,9 +42,13 @@ bad_sight b = record { place = b.place; txn = b.txn; key = b.key; saw = b.saw }
 abbrev pub IsBadOf : List Event → Sight → BadRead → Type 0
 IsBadOf h s b = (bad_sight b ≡ s) × IsBadRead h b.place b.txn b.key b.saw b.due
 
--- the unexplained read that a bad read is
-abbrev pub IsUnexplainedOf : List Event → BadRead → Unexplained → Type 0
-IsUnexplainedOf h b u = IsUnexplained h b.place b.txn b.key b.saw × (u ≡ record { place = b.place; txn = b.txn; key = b.key; saw = b.saw })
+-- what an unexplained read saw
+abbrev pub unexplained_sight : Unexplained → Sight
+unexplained_sight u = record { place = u.place; txn = u.txn; key = u.key; saw = u.saw }
+
+-- the unexplained read of a sight
+abbrev pub IsUnexplainedOf : List Event → Sight → Unexplained → Type 0
+IsUnexplainedOf h s u = (unexplained_sight u ≡ s) × IsUnexplained h u.place u.txn u.key u.saw
 
 -- the sight is of a committed transaction and a written key, by number, and of a version that isn't the transaction's own, as of
 -- its commit
@@ -58,7 +62,3 @@ FromSight P Q y = (s : Sight) × P s × Q s y
 -- the bad write has the version as its second
 abbrev pub IsBadWith : List Event → KeyVersion → BadWrite → Type 0
 IsBadWith h second b = (b.key ≡ second.key) × (b.second ≡ second.txn) × IsBadWrite h b.key b.first b.second
-
--- it is of versions of k
-abbrev pub IsBadOfKey : List Event → ℕ → BadWrite → Type 0
-IsBadOfKey h k b = (b.key ≡ k) × IsBadWrite h b.key b.first b.second

@@ -1,8 +1,5 @@
 //! The audit of a part of the keys: its reads, its writes, and the versions that nothing explains.
-ghost use Rattle.std.specs.Prelude.{◌≡◌, ◌↔◌, IfOk, IsTrue, ◌<◌, OnOk, ◌-◌, Some, length, take};
-ghost use Rattle.sia_events.specs.Isolation.{IsUnexplained};
-ghost use Rattle.sia_events.specs.Reads.{SawAt};
-ghost use Rattle.sia_events.specs.Transactions.{IsCommitted};
+ghost use Rattle.std.specs.Prelude.{◌≡◌, IfOk, ◌<◌, OnOk, ◌-◌, Some, length, take};
 ghost use Rattle.sia_parts.specs.Dealing.{HasReadsOf};
 ghost use Rattle.sia_parts.specs.Findings.{ArePartFindings, ListsBadReads, ListsUnexplained, ListsBadWrites};
 ghost use Rattle.sia_parts.specs.Gathering.{IsPartFound};
@@ -21,12 +18,12 @@ pub(crate) mod sights;
 
 use crate::accesses::{ByReader, accesses_at};
 use crate::audit::ranges::put_range;
-use crate::audit::sights::{Known, Scope, Seen, numbers_within, put_read};
+use crate::audit::sights::{Known, Scope, Seen, WrongReads, numbers_within, put_read};
 use crate::cutting::Part;
 use crate::edges::{edges_at, first_or_end};
-use crate::finding::{BadRead, BadWrite, PartFindings, PartFound, Unexplained};
+use crate::finding::{BadWrite, PartFindings, PartFound};
 use crate::reads::{Reads, is_read, txn_of};
-use sia_events::{History, Key, Log, NoMemory, Row, TxnId};
+use sia_events::{History, Key, Log, NoMemory, Row};
 use sia_index::ordering::put_in_order;
 use sia_index::{Index, Reader};
 use std::alloc::Global;
@@ -83,55 +80,11 @@ pub fn find_in_part(
     let seen = seen_of(alloc, &scope, places)?;
     Ok(PartFound {
         bad_writes: bad_writes_of(alloc, &scope)?,
-        unexplained: unexplained_of(alloc, ix, part, &seen.bad_reads)?,
-        bad_reads: seen.bad_reads,
+        bad_reads: seen.wrong.bad_reads,
+        unexplained: seen.wrong.unexplained,
         saw: seen.saw,
         missed: seen.missed,
     })
-}
-
-fn unexplained_of(
-    alloc: Global,
-    ix: &Index,
-    part: Part,
-    bad: &[BadRead],
-) -> Result<Vec<Unexplained>, NoMemory>
-    requires bad { ListsBadReads ix.now (IsInPart part) bad.now }
-    ensures { IfOk result (λ found. ListsUnexplained ix.now (IsInPart part) found.items) }
-{
-    ix.law();
-    let mut found = Vec::new(alloc);
-    for read in bad {
-        if is_unexplained(ix, *read) {
-            found.push(Unexplained {
-                place: read.place,
-                txn: read.txn,
-                key: read.key,
-                saw: read.saw,
-            })?;
-        }
-    }
-    put_in_order(&mut found)?;
-    Ok(found)
-}
-
-fn is_unexplained(ix: &Index, read: BadRead) -> bool
-    requires { SawAt ix.now read.place read.txn read.key read.saw }
-    ensures { IsTrue result ↔ IsUnexplained ix.now read.place read.txn read.key read.saw }
-{
-    if !is_committed(ix, read.txn) || read.saw == read.txn {
-        return false;
-    }
-    if ix.wrote_before(ix.reader(read.txn, read.place), read.key) {
-        return true;
-    }
-    read.saw != 0 && !is_committed(ix, read.saw)
-}
-
-fn is_committed(ix: &Index, t: TxnId) -> bool
-    ensures { IsTrue result ↔ IsCommitted ix.now t }
-{
-    ix.lifetime_of(t).is_some()
 }
 
 fn bad_writes_of(alloc: Global, scope: &Scope) -> Result<Vec<BadWrite>, NoMemory>
@@ -186,7 +139,9 @@ fn seen_of(alloc: Global, scope: &Scope, places: &[u32]) -> Result<Seen, NoMemor
     requires scope { IsScope scope.now }
     requires places { HasReadsOf scope.now.ix.now scope.now.part places.now }
     ensures bad_reads { IfOk result (λ seen. ListsBadReads scope.now.ix.now
-        (IsInPart scope.now.part) seen.bad_reads.items) }
+        (IsInPart scope.now.part) seen.wrong.bad_reads.items) }
+    ensures unexplained { IfOk result (λ seen. ListsUnexplained scope.now.ix.now
+        (IsInPart scope.now.part) seen.wrong.unexplained.items) }
     ensures sights { IfOk result (λ seen. AreSights scope.now.ix.now
         (IsInPart scope.now.part) seen.saw seen.missed) }
 {
@@ -194,7 +149,10 @@ fn seen_of(alloc: Global, scope: &Scope, places: &[u32]) -> Result<Seen, NoMemor
     scope.ix.keys_law();
     scope.ix.committed();
     let mut seen = Seen {
-        bad_reads: Vec::new(alloc),
+        wrong: WrongReads {
+            bad_reads: Vec::new(alloc),
+            unexplained: Vec::new(alloc),
+        },
         saw: ByReader::new(alloc),
         missed: ByReader::new(alloc),
         near: (scope.first, scope.end),
@@ -224,7 +182,8 @@ fn seen_of(alloc: Global, scope: &Scope, places: &[u32]) -> Result<Seen, NoMemor
         last = Some(known);
         put_row(scope, &known, row, &mut seen)?;
     }
-    put_in_order(&mut seen.bad_reads)?;
+    put_in_order(&mut seen.wrong.bad_reads)?;
+    put_in_order(&mut seen.wrong.unexplained)?;
     Ok(seen)
 }
 

@@ -1,5 +1,5 @@
 -- What is seen, sight by sight.
-use Rattle.std.proofs.Common.{◌≡◌, ◌≢◌, ◌⊎◌, inl, inr, ℕ, ◌+◌, ◌<◌, ◌≤◌, List, Option, Some, Vec, Global, length, get_or, refl, ap, sym, subst, ◌∙◌, arith}
+use Rattle.std.proofs.Common.{◌≡◌, ◌≢◌, ◌⊎◌, inl, inr, ℕ, ◌+◌, ◌<◌, ◌≤◌, List, Option, Some, length, get_or, refl, ap, sym, subst, ◌∙◌, arith}
 use Rattle.std.specs.Prelude.{◌↔◌, All}
 use Rattle.std.proofs.lemmas.Bool.{cases_lt}
 use Rattle.std.proofs.lemmas.List.{take_all}
@@ -17,10 +17,11 @@ use Rattle.sia_index.specs.Info.{IsKeyAt}
 use Rattle.sia_index.specs.Numbers.{IsCommittedAt}
 use Rattle.sia_index.specs.Positions.{IsAtPosition}
 use Rattle.sia_parts.specs.declared.audit.sights.Seen.{Seen}
-use Rattle.sia_parts.specs.Sights.{Sight, Adds, FromSome, FromSight, IsBadOf, LooksAt}
-use Rattle.sia_parts.specs.declared.finding.BadRead.{BadRead}
-use Rattle.sia_parts.specs.Seeing.{Gains, IsPlaced, IsPositionOf, IsSeenAt, IsSightWithin}
-use Rattle.sia_parts.proofs.Shared.Adding.{FromFirst, adds_both, adds_nothing, adds_same, first_more}
+use Rattle.sia_parts.specs.Sights.{Sight, Adds, FromSome, LooksAt}
+use Rattle.sia_parts.specs.declared.audit.sights.WrongReads.{WrongReads}
+use Rattle.sia_parts.specs.Seeing.{AddsWrong, Gains, IsPlaced, IsPositionOf, IsSeenAt, IsSightWithin}
+use Rattle.sia_parts.proofs.Shared.Adding.{FromFirst, first_more}
+use Rattle.sia_parts.proofs.Auditing.Saw.{wrong_both, wrong_none, wrong_one, wrong_same}
 use Rattle.sia_parts.proofs.Auditing.AsOf.{one_as_of}
 use Rattle.sia_parts.proofs.Shared.OneNumber.{one_key}
 use Rattle.sia_parts.proofs.Auditing.Positions.{at_as_of, one_at}
@@ -39,7 +40,7 @@ all_adds {A} Q P old new adds each all i d below =
 module _ (h : List Event) where
   pub gains_none : (P : Sight → Type 0) → ((s : Sight) → ¬ P s) → (seen : Seen) → Gains h P seen seen
   gains_none P none seen = record {
-    bad_reads = adds_nothing (FromSight P (IsBadOf h)) seen.bad_reads.items (λ b f. none f.0 f.1);
+    wrong = wrong_none h P none seen.wrong;
     looks = λ at. ((λ e. inl e), (λ e. elim e [ inl old ↦ old | inr f ↦ absurd (none f.0 f.1) ]));
     placed = λ all. all;
     some = λ all. all;
@@ -47,7 +48,7 @@ module _ (h : List Event) where
 
   pub gains_same : (P Q : Sight → Type 0) → ((s : Sight) → P s → Q s) → ((s : Sight) → Q s → P s) → (old new : Seen) → Gains h P old new → Gains h Q old new
   gains_same P Q to from old new gains = record {
-    bad_reads = adds_same (FromSight P (IsBadOf h)) (FromSight Q (IsBadOf h)) old.bad_reads.items new.bad_reads.items (λ b f. (f.0, to f.0 f.1, f.2)) (λ b f. (f.0, from f.0 f.1, f.2)) gains.bad_reads;
+    wrong = wrong_same h P Q to from old.wrong new.wrong gains.wrong;
     looks = λ at. (
       (λ e. elim ((gains.looks at).0 e) [ inl before ↦ inl before | inr f ↦ inr (f.0, to f.0 f.1, f.2) ]),
       (λ e. (gains.looks at).1 (elim e [ inl before ↦ inl before | inr f ↦ inr (f.0, from f.0 f.1, f.2) ])),
@@ -57,16 +58,13 @@ module _ (h : List Event) where
   }
 
   -- where the next search starts makes no difference
-  pub gains_near : (P : Sight → Type 0) (old new : Seen) (near : ℕ × ℕ) → Gains h P (record { bad_reads = old.bad_reads; saw = old.saw; missed = old.missed; near = near }) new → Gains h P old new
-  gains_near P old new near gains = record { bad_reads = gains.bad_reads; looks = gains.looks; placed = gains.placed; some = gains.some }
+  pub gains_near : (P : Sight → Type 0) (old new : Seen) (near : ℕ × ℕ) → Gains h P (record { wrong = old.wrong; saw = old.saw; missed = old.missed; near = near }) new → Gains h P old new
+  gains_near P old new near gains = record { wrong = gains.wrong; looks = gains.looks; placed = gains.placed; some = gains.some }
 
   -- one after another
   pub gains_both : (P Q R : Sight → Type 0) → ((s : Sight) → R s → P s ⊎ Q s) → ((s : Sight) → P s → R s) → ((s : Sight) → Q s → R s) → (old mid new : Seen) → Gains h P old mid → Gains h Q mid new → Gains h R old new
   gains_both P Q R to one other old mid new first second = record {
-    bad_reads = adds_same (λ b. FromSight P (IsBadOf h) b ⊎ FromSight Q (IsBadOf h) b) (FromSight R (IsBadOf h)) old.bad_reads.items new.bad_reads.items
-        (λ b e. elim e [ inl f ↦ (f.0, one f.0 f.1, f.2) | inr f ↦ (f.0, other f.0 f.1, f.2) ])
-        (λ b f. elim (to f.0 f.1) [ inl p ↦ inl (f.0, p, f.2) | inr q ↦ inr (f.0, q, f.2) ])
-        (adds_both (FromSight P (IsBadOf h)) (FromSight Q (IsBadOf h)) old.bad_reads.items mid.bad_reads.items new.bad_reads.items first.bad_reads second.bad_reads);
+    wrong = wrong_both h P Q R to one other old.wrong mid.wrong new.wrong first.wrong second.wrong;
     looks = λ at. (
       (λ e. elim ((second.looks at).0 e) [
         | inl middle ↦ elim ((first.looks at).0 middle) [ inl before ↦ inl before | inr f ↦ inr (f.0, one f.0 f.1, f.2) ]
@@ -85,18 +83,27 @@ module _ (h : List Event) where
   }
 
   -- one stretch of numbers after another
-  pub gains_then : (p a b c : ℕ) → a ≤ b → b ≤ c → (old mid new : Seen) → Gains h (IsSightWithin h p a b) old mid → Gains h (IsSightWithin h p b c) mid new → Gains h (IsSightWithin h p a c) old new
-  gains_then p a b c le more old mid new first second = gains_both (IsSightWithin h p a b) (IsSightWithin h p b c) (IsSightWithin h p a c)
-      (λ s is. elim (cases_lt is.2 b) [ inl less ↦ inl (is.0, is.1, is.2, is.3, is.4, less) | inr after ↦ inr (is.0, is.1, is.2, is.3, after, is.5) ])
-      (λ s is. (is.0, is.1, is.2, is.3, is.4, (let less = is.5 in omega arith)))
-      (λ s is. (is.0, is.1, is.2, is.3, (let low = is.4 in omega arith), is.5))
-      old mid new first second
+  module _ (p a b c : ℕ) (le : a ≤ b) (more : b ≤ c) where
+    in_parts : (s : Sight) → IsSightWithin h p a c s → IsSightWithin h p a b s ⊎ IsSightWithin h p b c s
+    in_parts s is = elim (cases_lt is.2 b) [ inl less ↦ inl (is.0, is.1, is.2, is.3, is.4, less) | inr after ↦ inr (is.0, is.1, is.2, is.3, after, is.5) ]
+
+    in_first : (s : Sight) → IsSightWithin h p a b s → IsSightWithin h p a c s
+    in_first s is = (is.0, is.1, is.2, is.3, is.4, (let less = is.5 in omega arith))
+
+    in_last : (s : Sight) → IsSightWithin h p b c s → IsSightWithin h p a c s
+    in_last s is = (is.0, is.1, is.2, is.3, (let low = is.4 in omega arith), is.5)
+
+    pub gains_then : (old mid new : Seen) → Gains h (IsSightWithin h p a b) old mid → Gains h (IsSightWithin h p b c) mid new → Gains h (IsSightWithin h p a c) old new
+    gains_then = gains_both (IsSightWithin h p a b) (IsSightWithin h p b c) (IsSightWithin h p a c) in_parts in_first in_last
+
+    pub wrong_then : (old mid new : WrongReads) → AddsWrong h (IsSightWithin h p a b) old mid → AddsWrong h (IsSightWithin h p b c) mid new → AddsWrong h (IsSightWithin h p a c) old new
+    wrong_then = wrong_both h (IsSightWithin h p a b) (IsSightWithin h p b c) (IsSightWithin h p a c) in_parts in_first in_last
 
   -- the only sight
-  pub gains_one : (P : Sight → Type 0) (s : Sight) → P s → ((x : Sight) → P x → x ≡ s) → (old : Seen) (bad : Vec BadRead Global) (saw : List (ℕ × ℕ))
-      → Adds (IsBadOf h s) old.bad_reads.items bad.items → GainsLook h s old.saw saw → Gains h P old (record { bad_reads = bad; saw = saw; missed = old.missed; near = old.near })
-  gains_one P s has only old bad saw adds gains = record {
-    bad_reads = adds_same (IsBadOf h s) (FromSight P (IsBadOf h)) old.bad_reads.items bad.items (λ b is. (s, has, is)) (λ b f. subst (λ (x : Sight). IsBadOf h x b) (only f.0 f.1) f.2) adds;
+  pub gains_one : (P : Sight → Type 0) (s : Sight) → P s → ((x : Sight) → P x → x ≡ s) → (old : Seen) (wrong : WrongReads) (saw : List (ℕ × ℕ))
+      → AddsWrong h (λ x. x ≡ s) old.wrong wrong → GainsLook h s old.saw saw → Gains h P old (record { wrong = wrong; saw = saw; missed = old.missed; near = old.near })
+  gains_one P s has only old wrong saw adds gains = record {
+    wrong = wrong_one h P s has only old.wrong wrong adds;
     looks = λ at. (
       (λ e. elim e [
         | inl f ↦ elim ((gains.looks at).0 f) [ inl before ↦ inl (inl before) | inr is ↦ inr (s, has, is) ]

@@ -3,11 +3,9 @@ use Rattle.std.proofs.Common.{◌≡◌, inl, inr, ℕ, ◌+◌, ◌<◌, ◌≤
 use Rattle.std.specs.Prelude.{◌↔◌, slice_index}
 use Rattle.std.proofs.lemmas.Bool.{cases_lt}
 use Rattle.sia_events.specs.declared.event.Event.{Event}
-use Rattle.sia_events.specs.Transactions.{Wrote}
 use Rattle.sia_index.specs.Info.{AreWrittenKeys, IsKeyAt}
 use Rattle.sia_index.proofs.Shared.KeyChains.{key_number}
 use Rattle.sia_index.proofs.Sorting.Points.{PointBelow, point_below, point_from}
-use Rattle.sia_events.specs.Reads.{IsDue}
 
 -- the keys before the place are at most hi, and the others are above
 pub record IsEnd (keys : List ℕ) (hi to : ℕ) : Type 0 where
@@ -47,7 +45,3 @@ module _ (h : List Event) (keys : List ℕ) (are : AreWrittenKeys h keys) (lo hi
           ],
         )),
   )
-
--- version 0 of a key that isn't written is due to everyone
-pub unwritten_due : (h : List Event) (t p k : ℕ) → ((u : ℕ) → ¬ Wrote h u k) → IsDue h t p k 0
-unwritten_due h t p k none = inr ((λ before. none t (before.0, before.2)), inr ((λ u seen. none u seen.0), refl))

@@ -1,5 +1,5 @@
 -- Keys that a range read passed over, by their numbers.
-use Rattle.std.proofs.Common.{◌≡◌, ◌⊎◌, inl, inr, ℕ, ◌+◌, ◌-◌, ◌<◌, ◌≤◌, List, Option, Some, None, unwrap_or, Vec, Global, length, refl, ap, subst, ◌∙◌, arith}
+use Rattle.std.proofs.Common.{◌≡◌, inl, inr, ℕ, ◌+◌, ◌-◌, ◌<◌, ◌≤◌, List, Option, Some, None, unwrap_or, length, refl, ap, sym, subst, ◌∙◌, arith}
 use Rattle.std.specs.Option.{option_or}
 use Rattle.std.specs.Prelude.{All, Bool, MatchOption, slice_index}
 use Rattle.std.proofs.lemmas.Bool.{cases_eq, cases_lt}
@@ -17,17 +17,16 @@ use Rattle.sia_index.specs.Positions.{HasVersionUpTo}
 use Rattle.sia_parts.proofs.Auditing.Positions.{none_is_due}
 use Rattle.sia_parts.specs.declared.audit.sights.Known.{Known}
 use Rattle.sia_parts.specs.declared.audit.sights.Seen.{Seen}
-use Rattle.sia_parts.specs.Sights.{Sight, Adds, FromSight, Gives, IsBadOf, LooksAt}
-use Rattle.sia_parts.specs.declared.finding.BadRead.{BadRead}
+use Rattle.sia_parts.specs.Sights.{Sight, Gives, LooksAt}
+use Rattle.sia_parts.specs.declared.audit.sights.WrongReads.{WrongReads}
 use Rattle.sia_parts.specs.declared.accesses.RangeMiss.{RangeMiss}
 use Rattle.sia_parts.specs.Accesses.{IsMissAt, IsPassedBy}
 use Rattle.sia_parts.specs.Known.{IsKnown}
-use Rattle.sia_parts.specs.Seeing.{Gains, HaveUpTo, IsGap, IsMiss, IsSightWithin}
-use Rattle.sia_parts.proofs.Shared.Adding.{adds_both, adds_nothing, adds_same}
+use Rattle.sia_parts.specs.Seeing.{AddsWrong, Gains, HaveUpTo, IsGap, IsMiss, IsSightWithin, sight_of}
 use Rattle.sia_parts.proofs.Auditing.AsOf.{one_as_of}
 use Rattle.sia_parts.proofs.Auditing.Gaining.{is_sight, one_sight}
 use Rattle.sia_parts.proofs.Shared.OneNumber.{one_key, one_key_number}
-use Rattle.sia_parts.proofs.Auditing.Saw.{bad_none}
+use Rattle.sia_parts.proofs.Auditing.Saw.{due_not_wrong, wrong_one}
 
 module _ (h : List Event) (keys : List ℕ) (are : AreWrittenKeys h keys) where
   up : (i j : ℕ) → i < j → j < length keys → slice_index keys i < slice_index keys j
@@ -134,19 +133,18 @@ module _ (h : List Event) (wf : IsWellFormed h) (known : Known) (is_known : IsKn
       subst (λ k. SawAt h known.reader.place known.reader.txn k 0) (one_key h is.2 saw.0 s.key saw.1 is.3) saw.2
 
   abbrev unlisted : ℕ → Sight
-  unlisted k = record { place = known.reader.place; txn = known.reader.txn; key = k; saw = 0 }
+  unlisted k = sight_of known k 0
 
   only : (s : Sight) → P s → s ≡ unlisted s.key
   only s is = one_sight h wf known.reader.place known.reader.txn s.key 0 is.2 (saw_none s is) is.3 s (is.0, is.1, is.2, is.3, omega arith, omega arith)
 
-  -- where version 0 was due there is no bad read
-  pub none_bad : (a b : ℕ) → from ≤ a → b ≤ to → ((i k : ℕ) → a ≤ i → i < b → IsKeyAt h i k → IsDue h known.reader.txn known.reader.place k 0) → (old : List BadRead) → Adds (FromSight (IsSightWithin h known.reader.place a b) (IsBadOf h)) old old
-  none_bad a b low high due old = adds_nothing (FromSight (IsSightWithin h known.reader.place a b) (IsBadOf h)) old (λ x f.
-      let is = f.1 in
+  -- where version 0 was due nothing is wrong
+  pub none_wrong : (a b : ℕ) → from ≤ a → b ≤ to → ((i k : ℕ) → a ≤ i → i < b → IsKeyAt h i k → IsDue h known.reader.txn known.reader.place k 0) → (old : WrongReads) → AddsWrong h (IsSightWithin h known.reader.place a b) old old
+  none_wrong a b low high due = due_not_wrong h wf (IsSightWithin h known.reader.place a b) (λ s is.
       let first = is.4 in
       let last = is.5 in
-      let same : f.0 ≡ unlisted f.0.key = only f.0 (is.0, is.1, is.2, is.3, omega arith, omega arith) in
-      bad_none h (unlisted f.0.key) 0 (due is.2 f.0.key is.4 is.5 is.3) refl x (subst (λ (s : Sight). IsBadOf h s x) same f.2))
+      let same : s ≡ unlisted s.key = only s (is.0, is.1, is.2, is.3, omega arith, omega arith) in
+      subst (λ (x : Sight). IsDue h x.txn x.place x.key x.saw) (sym same) (due is.2 s.key is.4 is.5 is.3))
 
   -- where the reader wrote none of the keys before, and none has a version as of its start, version 0 is due
   abbrev pub OwnNone : ℕ → Type 0
@@ -178,24 +176,21 @@ module _ (h : List Event) (wf : IsWellFormed h) (known : Known) (is_known : IsKn
   or_due a b visible None end same is none = no_own_due a b visible end same is none
   or_due a b visible (Some n) end same is own = own_due a b visible end n same is own
 
-  -- the bad reads of one key
-  pub one_bad : (i k : ℕ) → from ≤ i → i < to → IsKeyAt h i k → (old new : List BadRead) → (SawAt h known.reader.place known.reader.txn k 0 → Adds (IsBadOf h (unlisted k)) old new) → Adds (FromSight (IsSightWithin h known.reader.place i (i + 1)) (IsBadOf h)) old new
-  one_bad i k low less at old new adds =
+  -- what is wrong at one key
+  pub one_wrong : (i k : ℕ) → from ≤ i → i < to → IsKeyAt h i k → (old new : WrongReads) → (SawAt h known.reader.place known.reader.txn k 0 → AddsWrong h (λ s. s ≡ unlisted k) old new) → AddsWrong h (IsSightWithin h known.reader.place i (i + 1)) old new
+  one_wrong i k low less at old new adds =
       let saw = gap.unlisted i low less in
       let here : SawAt h known.reader.place known.reader.txn k 0 = subst (λ j. SawAt h known.reader.place known.reader.txn j 0) (one_key h i saw.0 k saw.1 at) saw.2 in
-      adds_same (IsBadOf h (unlisted k)) (FromSight (IsSightWithin h known.reader.place i (i + 1)) (IsBadOf h)) old new
-      (λ x is. (unlisted k, is_sight h wf known.reader.place known.reader.txn k 0 i here at, is))
-      (λ x f. subst (λ (s : Sight). IsBadOf h s x) (one_sight h wf known.reader.place known.reader.txn k 0 i here at f.0 f.1) f.2)
-      (adds here)
+      wrong_one h (IsSightWithin h known.reader.place i (i + 1)) (unlisted k) (is_sight h wf known.reader.place known.reader.txn k 0 i here at) (one_sight h wf known.reader.place known.reader.txn k 0 i here at) old new (adds here)
 
   -- those passed over give no look but the range miss
-  pub gap_gains : (old : Seen) (bad : Vec BadRead Global) (missed : List (ℕ × RangeMiss))
-      → Adds (FromSight P (IsBadOf h)) old.bad_reads.items bad.items
+  pub gap_gains : (old : Seen) (wrong : WrongReads) (missed : List (ℕ × RangeMiss))
+      → AddsWrong h P old.wrong wrong
       → Gives IsPassedBy (λ at. (known.number ≡ Some at.0) × IsMissAt (record { from = from; to = to }) at.1) old.missed missed
       → (All IsMiss old.missed → All IsMiss missed)
-      → Gains h P old (record { bad_reads = bad; saw = old.saw; missed = missed; near = old.near })
-  gap_gains old bad missed adds gives some = record {
-    bad_reads = adds;
+      → Gains h P old (record { wrong = wrong; saw = old.saw; missed = missed; near = old.near })
+  gap_gains old wrong missed adds gives some = record {
+    wrong = adds;
     looks = λ at. (
       (λ e. elim e [
         | inl look ↦ inl (inl look)
@@ -221,20 +216,6 @@ module _ (h : List Event) (wf : IsWellFormed h) (known : Known) (is_known : IsKn
     placed = λ all. all;
     some = some;
   }
-
--- the bad reads of one stretch of numbers after another
-pub bad_then : (h : List Event) (p a b c : ℕ) → a ≤ b → b ≤ c → (old mid new : List BadRead) → Adds (FromSight (IsSightWithin h p a b) (IsBadOf h)) old mid → Adds (FromSight (IsSightWithin h p b c) (IsBadOf h)) mid new → Adds (FromSight (IsSightWithin h p a c) (IsBadOf h)) old new
-bad_then h p a b c le more old mid new first second = adds_same
-    (λ x. FromSight (IsSightWithin h p a b) (IsBadOf h) x ⊎ FromSight (IsSightWithin h p b c) (IsBadOf h) x) (FromSight (IsSightWithin h p a c) (IsBadOf h)) old new
-    (λ x e. elim e [
-      | inl f ↦ (f.0, (f.1.0, f.1.1, f.1.2, f.1.3, f.1.4, (let less = f.1.5 in omega arith)), f.2)
-      | inr f ↦ (f.0, (f.1.0, f.1.1, f.1.2, f.1.3, (let low = f.1.4 in omega arith), f.1.5), f.2)
-    ])
-    (λ x f. elim (cases_lt f.1.2 b) [
-      | inl less ↦ inl (f.0, (f.1.0, f.1.1, f.1.2, f.1.3, f.1.4, less), f.2)
-      | inr after ↦ inr (f.0, (f.1.0, f.1.1, f.1.2, f.1.3, after, f.1.5), f.2)
-    ])
-    (adds_both (FromSight (IsSightWithin h p a b) (IsBadOf h)) (FromSight (IsSightWithin h p b c) (IsBadOf h)) old mid new first second)
 
 -- the keys with numbers from within the gap
 pub part_of_gap : (h : List Event) (known : Known) (own : Bool) (from to : ℕ) → IsGap h known own from to → (a b : ℕ) → from ≤ a → b ≤ to → IsGap h known own a b

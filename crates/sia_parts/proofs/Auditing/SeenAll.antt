@@ -5,7 +5,7 @@ use Rattle.std.proofs.lemmas.Bool.{cases_eq}
 use Rattle.std.proofs.lemmas.List.{get_or_default}
 use Rattle.std.proofs.lemmas.List.Elements.{All-contains}
 use Rattle.sia_events.specs.declared.event.Event.{Event}
-use Rattle.sia_events.specs.Isolation.{IsBadRead}
+use Rattle.sia_events.specs.Isolation.{IsBadRead, IsUnexplained}
 use Rattle.sia_events.specs.Lists.{ListsAscending}
 use Rattle.sia_events.specs.NarrowDependencies.{Looked}
 use Rattle.sia_events.specs.Refusals.{IsWellFormed}
@@ -14,9 +14,10 @@ use Rattle.sia_events.proofs.OfLaws.Seen.{saw_written}
 use Rattle.sia_index.specs.Info.{AreWrittenKeys, IsKeyAt}
 use Rattle.sia_index.specs.Numbers.{IsCommittedAt}
 use Rattle.sia_parts.specs.declared.audit.sights.Seen.{Seen}
-use Rattle.sia_parts.specs.Sights.{Sight, FromSome, IsSight, bad_sight}
+use Rattle.sia_parts.specs.Sights.{Sight, FromSome, IsSight, bad_sight, unexplained_sight}
 use Rattle.sia_parts.specs.declared.cutting.Part.{Part}
 use Rattle.sia_parts.specs.declared.finding.BadRead.{BadRead}
+use Rattle.sia_parts.specs.declared.finding.Unexplained.{Unexplained}
 use Rattle.sia_parts.specs.Dealing.{HasReadsOf}
 use Rattle.sia_parts.specs.Accesses.{AreSights, IsLookAt, IsPassedBy}
 use Rattle.sia_parts.specs.Parts.{IsInPart}
@@ -27,7 +28,7 @@ use Rattle.sia_parts.proofs.Shared.OneNumber.{one_key}
 use Rattle.sia_parts.proofs.Auditing.Passing.{has_number}
 
 module _ (h : List Event) (wf : IsWellFormed h) (keys : List ℕ) (are : AreWrittenKeys h keys) (part : Part) (first end : ℕ) (scope : (j : ℕ) → ((first ≤ j) × (j < end)) ↔ ((k : ℕ) × IsKeyAt h j k × IsInPart part k))
-    (places : List ℕ) (reads : HasReadsOf h part places) (old new : Seen) (no_bad : old.bad_reads.items ≡ []) (no_saw : old.saw ≡ []) (no_missed : old.missed ≡ [])
+    (places : List ℕ) (reads : HasReadsOf h part places) (old new : Seen) (no_bad : old.wrong.bad_reads.items ≡ []) (no_unexplained : old.wrong.unexplained.items ≡ []) (no_saw : old.saw ≡ []) (no_missed : old.missed ≡ [])
     (gains : Gains h (λ s. FromSome (λ place. IsSightWithin h place first end) places s) old new) where
   abbrev P : Sight → Type 0
   P s = FromSome (λ place. IsSightWithin h place first end) places s
@@ -42,24 +43,38 @@ module _ (h : List Event) (wf : IsWellFormed h) (keys : List ℕ) (are : AreWrit
   in_part : (s : Sight) → P s → IsInPart part s.key
   in_part s f = let k = (scope f.2.2).0 (f.2.4, f.2.5) in subst (IsInPart part) (one_key h f.2.2 k.0 s.key k.1 f.2.3) k.2
 
-  pub bad_reads_are : (b : BadRead) → Contains new.bad_reads.items b ↔ (IsBadRead h b.place b.txn b.key b.saw b.due × IsInPart part b.key)
+  pub bad_reads_are : (b : BadRead) → Contains new.wrong.bad_reads.items b ↔ (IsBadRead h b.place b.txn b.key b.saw b.due × IsInPart part b.key)
   bad_reads_are b = (
-    (λ c. elim ((gains.bad_reads b).0 c) [
-      | inl before ↦ absurd (none_there b (subst (λ l. Contains l b) no_bad before))
+    (λ c. elim ((gains.wrong.bad_reads b).0 c) [
+      | inl before ↦ absurd (let c = subst (λ l. Contains l b) no_bad before in let below = c.1 in omega arith)
       | inr f ↦ (f.2.1, subst (λ (s : Sight). IsInPart part s.key) (sym f.2.0) (in_part f.0 f.1))
     ]),
     (λ w.
         let wrote = bad_wrote w.0 in
-        (gains.bad_reads b).1 (inr (bad_sight b, is_there (bad_sight b) w.0.0 w.1 wrote.0 wrote.1, (refl, w.0)))),
+        (gains.wrong.bad_reads b).1 (inr (bad_sight b, is_there (bad_sight b) w.0.0 w.1 wrote.0 wrote.1, (refl, w.0)))),
   )
     where
-      none_there : (x : BadRead) → ¬ Contains [] x
-      none_there x c = let below = c.1 in omega arith
-
       bad_wrote : IsBadRead h b.place b.txn b.key b.saw b.due → (u : ℕ) × Wrote h u b.key
       bad_wrote bad = elim (cases_eq b.saw 0) [
         | inl zero ↦ due_is_written h b.txn b.place b.key b.due bad.1 (λ due. bad.2 (zero ∙ sym due))
         | inr other ↦ let before = saw_written h wf b.place b.txn b.key b.saw bad.0 other in (b.saw, (before.0, before.2))
+      ]
+
+  pub unexplained_are : (u : Unexplained) → Contains new.wrong.unexplained.items u ↔ (IsUnexplained h u.place u.txn u.key u.saw × IsInPart part u.key)
+  unexplained_are u = (
+    (λ c. elim ((gains.wrong.unexplained u).0 c) [
+      | inl before ↦ absurd (let c = subst (λ l. Contains l u) no_unexplained before in let below = c.1 in omega arith)
+      | inr f ↦ (f.2.1, subst (λ (s : Sight). IsInPart part s.key) (sym f.2.0) (in_part f.0 f.1))
+    ]),
+    (λ w.
+        let wrote = unexplained_wrote w.0 in
+        (gains.wrong.unexplained u).1 (inr (unexplained_sight u, is_there (unexplained_sight u) w.0.1 w.1 wrote.0 wrote.1, (refl, w.0)))),
+  )
+    where
+      unexplained_wrote : IsUnexplained h u.place u.txn u.key u.saw → (t : ℕ) × Wrote h t u.key
+      unexplained_wrote is = elim is.2 [
+        | inl own ↦ (u.txn, (own.0.0, own.0.2))
+        | inr loose ↦ let before = saw_written h wf u.place u.txn u.key u.saw is.1 loose.0 in (u.saw, (before.0, before.2))
       ]
 
   -- what was seen was looked at

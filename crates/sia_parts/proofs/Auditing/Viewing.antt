@@ -1,14 +1,16 @@
 -- What follows from a view: what is due, and which look it gives.
-use Rattle.std.proofs.Common.{◌≡◌, ◌≢◌, inl, inr, ℕ, ◌+◌, ◌<◌, ◌≤◌, List, Option, Some, None, Result, Ok, Err, Vec, Global, false, subst, arith}
-use Rattle.std.specs.Prelude.{MatchOption, OnOk}
+use Rattle.std.proofs.Common.{◌≡◌, ◌≢◌, inl, inr, ℕ, ◌+◌, ◌<◌, ◌≤◌, List, Option, Some, None, Result, Ok, Err, Bool, false, subst, arith}
+use Rattle.std.specs.Prelude.{◌↔◌, MatchOption, OnOk}
+use Rattle.std.specs.Option.{is_some}
 use Rattle.sia_events.specs.declared.event.Event.{Event}
 use Rattle.sia_events.specs.declared.event.Event.TheVariants.{Read}
 use Rattle.sia_events.specs.Events.{Saw}
+use Rattle.sia_events.specs.NarrowDependencies.{IsAsOf}
 use Rattle.sia_events.specs.Numbering.{names_of, pair_at}
 use Rattle.sia_events.specs.Places.{at_place}
 use Rattle.sia_events.specs.Reads.{IsDue}
 use Rattle.sia_events.specs.Refusals.{IsWellFormed}
-use Rattle.sia_events.specs.Transactions.{IsCommitted, Wrote, WroteBefore}
+use Rattle.sia_events.specs.Transactions.{Wrote, WroteBefore}
 use Rattle.sia_events.proofs.OfLaws.Seen.{actor_is_txn, saw_written}
 use Rattle.sia_events.proofs.Shared.Starts.{one_event}
 use Rattle.sia_index.specs.Info.{IsKeyAt}
@@ -16,14 +18,14 @@ use Rattle.sia_index.specs.declared.info.KeyVersion.{KeyVersion}
 use Rattle.sia_index.specs.Positions.{IsAtPosition, IsNewestAsOf}
 use Rattle.sia_parts.specs.declared.audit.sights.Known.{Known}
 use Rattle.sia_parts.specs.declared.audit.sights.Seen.{Seen}
-use Rattle.sia_parts.specs.Sights.{Sight, Adds, IsBadOf, IsSight, LooksAt}
+use Rattle.sia_parts.specs.Sights.{Sight, IsSight, LooksAt}
 use Rattle.sia_parts.specs.declared.audit.sights.View.{View}
-use Rattle.sia_parts.specs.declared.finding.BadRead.{BadRead}
+use Rattle.sia_parts.specs.declared.audit.sights.WrongReads.{WrongReads}
 use Rattle.sia_parts.specs.Known.{IsKnown}
-use Rattle.sia_parts.specs.Seeing.{Gains, IsPositionOf, IsSightWithin, IsView}
+use Rattle.sia_parts.specs.Seeing.{AddsWrong, Gains, IsLoose, IsPositionOf, IsSightWithin, IsView, sight_of}
 use Rattle.sia_parts.proofs.Auditing.Gaining.{GainsLook, gains_one, gains_same, is_sight, one_sight}
 use Rattle.sia_parts.proofs.Shared.OneNumber.{at_is_written, one_key_number}
-use Rattle.sia_parts.proofs.Auditing.Positions.{newest_is_due}
+use Rattle.sia_parts.proofs.Auditing.Positions.{at_as_of, newest_is_due}
 
 pub on_ok : {T E : Type 0} (r : Result T E) (P Q : Type 0) → (P → Q) → OnOk r P → OnOk r Q
 on_ok (Ok x) P Q to p = to p
@@ -47,11 +49,11 @@ module _ (h : List Event) (wf : IsWellFormed h) (known : Known) (is_known : IsKn
   v = (pair_at (names_of h) view.pair).1
 
   abbrev pub seen_sight : Sight
-  seen_sight = record { place = known.reader.place; txn = known.reader.txn; key = k; saw = v }
+  seen_sight = sight_of known k v
 
   -- where the version stands
   pub stands : (q : ℕ) → view.at.position ≡ Some q → IsPositionOf h k v q
-  stands q some = subst (λ (o : Option ℕ). MatchOption o ((v ≢ 0) × ¬ IsCommitted h v) (IsPositionOf h k v)) some is.at.position
+  stands q some = subst (λ (o : Option ℕ). MatchOption o (IsLoose h v) (IsPositionOf h k v)) some is.at.position
 
   -- who hadn't written the key saw another's version
   pub saw_other : view.mine ≡ false → v ≢ known.reader.txn
@@ -73,25 +75,35 @@ module _ (h : List Event) (wf : IsWellFormed h) (known : Known) (is_known : IsKn
   -- a version without a position, or the reader's own, gives no look
   pub looks_not : view.at.position ≡ None → (at : ℕ × ℕ × ℕ) → ¬ LooksAt h seen_sight at
   looks_not none at look =
-      let loose = subst (λ (o : Option ℕ). MatchOption o ((v ≢ 0) × ¬ IsCommitted h v) (IsPositionOf h k v)) none is.at.position in
+      let loose = subst (λ (o : Option ℕ). MatchOption o (IsLoose h v) (IsPositionOf h k v)) none is.at.position in
       elim look.3 [ inl zero ↦ loose.0 zero.0 | inr commits ↦ loose.1 (at.2, commits) ]
 
   pub own_not : v ≡ known.reader.txn → (at : ℕ × ℕ × ℕ) → ¬ LooksAt h seen_sight at
   own_not same at look = look.2 same
 
-  -- what the names give, where they are those of the version
-  pub bad_named : (names : ℕ × ℕ) → names ≡ pair_at (names_of h) view.pair → (due : ℕ) → IsDue h known.reader.txn known.reader.place k due → (old new : List BadRead)
-      → ((g : List Event) → IsSight g (record { place = known.reader.place; txn = known.reader.txn; key = names.0; saw = names.1 }) → IsDue g known.reader.txn known.reader.place names.0 due
-      → Adds (IsBadOf g (record { place = known.reader.place; txn = known.reader.txn; key = names.0; saw = names.1 })) old new) → Adds (IsBadOf h seen_sight) old new
-  bad_named names same due is_due old new adds = subst (λ (q : ℕ × ℕ). IsSight h (record { place = known.reader.place; txn = known.reader.txn; key = q.0; saw = q.1 }) → IsDue h known.reader.txn known.reader.place q.0 due
-      → Adds (IsBadOf h (record { place = known.reader.place; txn = known.reader.txn; key = q.0; saw = q.1 })) old new) same (adds h) is.saw is_due
+  -- which versions have no position
+  loose_told : (o : Option ℕ) → MatchOption o (IsLoose h v) (IsPositionOf h k v) → (told : Bool) → told ≡ is_some o → (told ≡ false) ↔ IsLoose h v
+  loose_told None loose told same = ((λ no. loose), (λ yes. same))
+  loose_told (Some q) there told same = (
+    (λ no. absurd cc),
+    (λ loose.
+        let as_of = subst (λ u. IsAsOf h u there.0.commit) there.3 (at_as_of h q there.0 there.1) in
+        elim as_of [ inl zero ↦ absurd (loose.0 zero.0) | inr commits ↦ absurd (loose.1 (there.0.commit, commits)) ]),
+  )
 
-  pub gains_view : (old : Seen) (bad : Vec BadRead Global) (saw : List (ℕ × ℕ)) → Adds (IsBadOf h seen_sight) old.bad_reads.items bad.items → GainsLook h seen_sight old.saw saw
-      → Gains h (IsSightWithin h known.reader.place view.at.key (view.at.key + 1)) old (record { bad_reads = bad; saw = saw; missed = old.missed; near = old.near })
-  gains_view old bad saw adds gains = gains_one h (IsSightWithin h known.reader.place view.at.key (view.at.key + 1)) seen_sight
+  -- what the names give, where they are those of the version
+  pub wrong_named : (names : ℕ × ℕ) → names ≡ pair_at (names_of h) view.pair → (due : ℕ) → IsDue h known.reader.txn known.reader.place k due → (committed : Bool) → committed ≡ is_some view.at.position → (old new : WrongReads)
+      → ((g : List Event) → IsWellFormed g → IsKnown g known → IsSight g (sight_of known names.0 names.1) → IsDue g known.reader.txn known.reader.place names.0 due → ((committed ≡ false) ↔ IsLoose g names.1)
+      → AddsWrong g (λ s. s ≡ sight_of known names.0 names.1) old new) → AddsWrong h (λ s. s ≡ seen_sight) old new
+  wrong_named names same due is_due committed told old new adds = subst (λ (q : ℕ × ℕ). IsSight h (sight_of known q.0 q.1) → IsDue h known.reader.txn known.reader.place q.0 due → ((committed ≡ false) ↔ IsLoose h q.1)
+      → AddsWrong h (λ s. s ≡ sight_of known q.0 q.1) old new) same (adds h wf is_known) is.saw is_due (loose_told view.at.position is.at.position committed told)
+
+  pub gains_view : (old : Seen) (wrong : WrongReads) (saw : List (ℕ × ℕ)) → AddsWrong h (λ s. s ≡ seen_sight) old.wrong wrong → GainsLook h seen_sight old.saw saw
+      → Gains h (IsSightWithin h known.reader.place view.at.key (view.at.key + 1)) old (record { wrong = wrong; saw = saw; missed = old.missed; near = old.near })
+  gains_view old wrong saw adds gains = gains_one h (IsSightWithin h known.reader.place view.at.key (view.at.key + 1)) seen_sight
       (is_sight h wf known.reader.place known.reader.txn k v view.at.key is.saw is.at.key)
       (one_sight h wf known.reader.place known.reader.txn k v view.at.key is.saw is.at.key)
-      old bad saw adds gains
+      old wrong saw adds gains
 
 -- where a transaction read a key only, all that is seen there is of that key
 module _ (h : List Event) (p t k v : ℕ) (at : at_place h p ≡ Some (Read t k v)) where

@@ -1,20 +1,11 @@
 -- What stands side by side in a list that is in order by ranks: all that have one first number.
-use Rattle.std.proofs.Common.{◌≡◌, ◌⊎◌, inl, inr, ℕ, ◌+◌, ◌-◌, ◌<◌, ◌≤◌, true, false, List, ◌∷◌, ◌++◌, length, get_or, take, drop, ltb, leb, refl, ap, sym, ◌∙◌, subst, arith}
-use Rattle.std.specs.Prelude.{AllPairs}
+use Rattle.std.proofs.Common.{◌≡◌, ◌⊎◌, inl, inr, ℕ, ◌+◌, ◌-◌, ◌<◌, ◌≤◌, true, false, List, ◌++◌, length, get_or, take, drop, ltb, leb, refl, ap, sym, ◌∙◌, subst, arith}
 use Rattle.std.specs.List.{AllWithin}
-use Rattle.std.specs.List.Sorted.{IsNonDecreasingBy, IsPartitionPoint}
+use Rattle.std.specs.List.Sorted.{IsPartitionPoint}
 use Rattle.std.proofs.lemmas.Bool.{cases_lt, lt-ltb, le-ltb, le-leb, lt-leb, ltb-true, ltb-false, leb-true, leb-false}
 use Rattle.std.proofs.lemmas.List.{take-append-drop, get_or-take, get_or-drop, length-take, length-drop}
-use Rattle.sia_events.specs.Lists.{Precedes}
 use Rattle.sia_index.specs.Between.{IsBetween}
 use Rattle.sia_parts.specs.Groups.{IsGroup}
-
--- what is in order by ranks doesn't descend by the first number of these
-pub heads_rise : {A : Type 0} (key : A → ℕ) (others : A → List ℕ) (xs : List A) → AllPairs (λ x y. Precedes (key x ∷ others x) (key y ∷ others y)) xs → IsNonDecreasingBy key xs
-heads_rise key others xs up i j d l b = elim (cases_lt i j) [
-  | inl less ↦ elim (up i j d less b) [ inl under ↦ omega arith | inr same ↦ let at = same.0 in omega arith ]
-  | inr more ↦ let e : i ≡ j = omega arith in let f = ap (λ k. key (get_or xs k d)) e in omega arith
-]
 
 -- what two partitions cut out
 pub cut_out : {A : Type 0} (key : A → ℕ) (xs rest : List A) (t first count : ℕ) → rest ≡ drop first xs

@@ -3,7 +3,7 @@ use Rattle.std.proofs.Common.{◌≡◌, ◌≢◌, inl, inr, ℕ, ◌<◌, ◌�
 use Rattle.std.proofs.lemmas.Bool.{cases_lt}
 use Rattle.sia_events.specs.declared.event.Event.{Event}
 use Rattle.sia_events.specs.declared.event.Event.TheVariants.{Write}
-use Rattle.sia_events.specs.Dependencies.{IsCommittedWriter, IsVersionBefore}
+use Rattle.sia_events.specs.Dependencies.{IsVersionBefore}
 use Rattle.sia_events.specs.Events.{Saw}
 use Rattle.sia_events.specs.Isolation.{IsBadWrite}
 use Rattle.sia_events.specs.Reads.{SawAt}
@@ -18,9 +18,6 @@ use Rattle.sia_parts.specs.Sightings.{Gives, IsFirstSight}
 use Rattle.sia_parts.proofs.OfReasons.Sighted.{same_event}
 
 module _ (h : List Event) (wf : IsWellFormed h) (k first second : ℕ) (bad : IsBadWrite h k first second) where
-  pub first_writer : IsCommittedWriter h k first
-  first_writer = (bad.0, (bad.3.0, bad.3.2))
-
   not_second : (v : ℕ) → IsVersionBefore h k v first → v ≢ second
   not_second v before same = elim before [
     | inl z ↦

@@ -8,14 +8,13 @@ ghost use Rattle.sia_events.specs.Refusals.{IsWellFormed};
 ghost use Rattle.sia_index.specs.Info.{HasKeyAt};
 ghost use Rattle.sia_parts.specs.Accesses.{IsMissAt, IsPassedBy};
 ghost use Rattle.sia_parts.specs.Known.{IsKnown};
-ghost use Rattle.sia_parts.specs.Seeing.{Gains, IsCover, IsGap, IsMiss, HaveUpTo, IsScope, IsSightWithin};
-ghost use Rattle.sia_parts.specs.Sights.{Adds, FromSight, Gives, IsBadOf};
+ghost use Rattle.sia_parts.specs.Seeing.{AddsWrong, Gains, IsCover, IsGap, IsMiss, HaveUpTo, IsScope, IsSightWithin};
+ghost use Rattle.sia_parts.specs.Sights.{Gives};
 
 use crate::accesses::{ByReader, RangeMiss};
 use crate::audit::sights::{
-    Known, Scope, Seen, due_at, numbers_within, put_if_bad, put_view, stands,
+    Known, Scope, Seen, WrongReads, due_at, numbers_within, put_if_bad, put_view, stands,
 };
-use crate::finding::BadRead;
 use sia_events::{Key, Log, NoMemory};
 use sia_index::Index;
 use sia_index::keyed::{ByKey, place_from};
@@ -124,7 +123,7 @@ fn put_gap(
     if from >= to {
         return Ok(());
     }
-    put_unlisted(ix, known, own, from, to, &mut seen.bad_reads)?;
+    put_unlisted(ix, known, own, from, to, &mut seen.wrong)?;
     put_miss(known.number, RangeMiss { from, to }, &mut seen.missed)
 }
 
@@ -135,27 +134,21 @@ fn put_unlisted(
     own: bool,
     from: u32,
     to: u32,
-    bad: &mut Vec<BadRead>,
+    wrong: &mut WrongReads,
 ) -> Result<(), NoMemory>
     requires well_formed { IsWellFormed ix.now }
     requires known { IsKnown ix.now known.now }
     requires some { from < to }
     requires gap { IsGap ix.now known.now own from to }
-    ensures { OnOk result (Adds (FromSight (IsSightWithin ix.now known.now.reader.place from to)
-        (IsBadOf ix.now)) bad.old.items bad.new.items) }
+    ensures { OnOk result (AddsWrong ix.now (IsSightWithin ix.now known.now.reader.place from to)
+        wrong.old wrong.new) }
 {
     let mut next = from;
     while let Some(number) = next_doubtful(ix, known, own, next, to) {
         let key = ix.written_keys()[number as usize];
         let mine = own && ix.wrote_before(known.reader, key);
-        let read = BadRead {
-            place: known.reader.place,
-            txn: known.reader.txn,
-            key,
-            saw: 0,
-            due: due_at(ix, known, number, mine),
-        };
-        put_if_bad(read, bad)?;
+        let due = due_at(ix, known, number, mine);
+        put_if_bad(known, (key, 0), due, true, wrong)?;
         next = number + 1;
     }
     Ok(())

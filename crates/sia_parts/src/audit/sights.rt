@@ -1,5 +1,5 @@
 //! What a read saw of one key: whether it is bad, and where the version stands.
-ghost use Rattle.std.specs.Prelude.{◌≡◌, ◌↔◌, ◌+◌, ◌<◌, ℕ, List, Some, IsTrue, OnOk, MatchOption, ◌-◌, ◌≤◌};
+ghost use Rattle.std.specs.Prelude.{◌≡◌, ◌⊎◌, ◌↔◌, ◌+◌, ◌<◌, ℕ, List, Some, IsSome, IsTrue, OnOk, MatchOption, ◌-◌, ◌≤◌, false};
 ghost use Rattle.sia_events.specs.declared.event.Event.{Event};
 ghost use Rattle.sia_events.specs.Numbering.{names_of, pair_at, IsPair};
 ghost use Rattle.sia_events.specs.Places.{at_place};
@@ -8,13 +8,13 @@ ghost use Rattle.sia_events.specs.Refusals.{IsWellFormed};
 ghost use Rattle.sia_events.specs.Transactions.{Wrote, WroteBefore};
 ghost use Rattle.sia_index.specs.Info.{HasKeyAt, IsKeyAt};
 ghost use Rattle.sia_parts.specs.Known.{IsKnown};
-ghost use Rattle.sia_parts.specs.Seeing.{Gains, IsScope, IsSightWithin, IsVersionAt, IsView};
-ghost use Rattle.sia_parts.specs.Sights.{Adds, IsSight, IsBadOf, bad_sight};
+ghost use Rattle.sia_parts.specs.Seeing.{AddsWrong, Gains, IsLoose, IsScope, IsSightWithin, IsVersionAt, IsView, sight_of};
+ghost use Rattle.sia_parts.specs.Sights.{Adds, IsSight};
 ghost use Rattle.sia_events.specs.declared.event.Event.TheVariants as events;
 
 use crate::accesses::{ByReader, RangeMiss};
 use crate::cutting::Part;
-use crate::finding::BadRead;
+use crate::finding::{BadRead, Unexplained};
 use sia_events::{Key, Log, NoMemory, Version};
 use sia_index::keyed::{ByKey, place_from_near};
 use sia_index::{Index, Reader, WriteAt};
@@ -53,10 +53,17 @@ pub(crate) struct Known {
     pub(crate) number: Option<u32>,
 }
 
-/// What reads saw at the keys of a part: what is bad of it, and what the committed transactions saw.
+/// Reads that saw another version than the one due, and those of them that nothing explains.
+#[derive(Drop)]
+pub(crate) struct WrongReads {
+    pub(crate) bad_reads: Vec<BadRead>,
+    pub(crate) unexplained: Vec<Unexplained>,
+}
+
+/// What reads saw at the keys of a part: what is wrong with it, and what the committed transactions saw.
 #[derive(Drop)]
 pub(crate) struct Seen {
-    pub(crate) bad_reads: Vec<BadRead>,
+    pub(crate) wrong: WrongReads,
     pub(crate) saw: ByReader<u32>,
     pub(crate) missed: ByReader<RangeMiss>,
     /// The numbers of the first key of the last range, and behind the last one. Only searches go by them.
@@ -161,14 +168,8 @@ fn put_doubtful(scope: &Scope, known: &Known, view: &View, seen: &mut Seen) -> R
 {
     let (key, saw) = scope.log.pair(view.pair);
     let due = due_at(scope.ix, known, view.at.key, view.mine);
-    let read = BadRead {
-        place: known.reader.place,
-        txn: known.reader.txn,
-        key,
-        saw,
-        due,
-    };
-    put_if_bad(read, &mut seen.bad_reads)?;
+    let committed = view.at.position.is_some();
+    put_if_bad(known, (key, saw), due, committed, &mut seen.wrong)?;
     if saw == known.reader.txn {
         return Ok(());
     }
@@ -197,15 +198,49 @@ pub(crate) fn due_at(ix: &Index, known: &Known, key: u32, mine: bool) -> Version
     }
 }
 
-/// Adds the read, if it saw another version than the one due.
-pub(crate) fn put_if_bad(read: BadRead, bad: &mut Vec<BadRead>) -> Result<(), NoMemory>
-    ensures { (h : List Event) → IsSight h (bad_sight read) → IsDue h read.txn read.place read.key read.due
-        → OnOk result (Adds (IsBadOf h (bad_sight read)) bad.old.items bad.new.items) }
+/// Adds the reader's read of the version of a key, if another one was due. A version that isn't `committed` is neither 0 nor that of a
+/// committed transaction.
+pub(crate) fn put_if_bad(
+    known: &Known,
+    pair: (Key, Version),
+    due: Version,
+    committed: bool,
+    wrong: &mut WrongReads,
+) -> Result<(), NoMemory>
+    ensures { (h : List Event) → IsWellFormed h → IsKnown h known.now
+        → IsSight h (sight_of known.now pair.0 pair.1)
+        → IsDue h known.now.reader.txn known.now.reader.place pair.0 due
+        → ((committed ≡ false) ↔ IsLoose h pair.1)
+        → OnOk result (AddsWrong h (λ s. s ≡ sight_of known.now pair.0 pair.1) wrong.old wrong.new) }
 {
-    if read.due != read.saw {
-        bad.push(read)?;
+    let ((key, saw), place, txn) = (pair, known.reader.place, known.reader.txn);
+    if due == saw {
+        return Ok(());
+    }
+    wrong.bad_reads.push(BadRead {
+        place,
+        txn,
+        key,
+        saw,
+        due,
+    })?;
+    if is_unexplained(known, due, committed) {
+        wrong.unexplained.push(Unexplained {
+            place,
+            txn,
+            key,
+            saw,
+        })?;
     }
     Ok(())
+}
+
+/// Whether nothing explains a bad read: its reader committed, and its own write was due, or it saw a version that isn't committed.
+fn is_unexplained(known: &Known, due: Version, committed: bool) -> bool
+    ensures { IsTrue result ↔ (IsSome known.now.number
+        × ((due ≡ known.now.reader.txn) ⊎ (committed ≡ false))) }
+{
+    known.number.is_some() && (due == known.reader.txn || !committed)
 }
 
 /// The reader saw the version at the position, if it has a number.

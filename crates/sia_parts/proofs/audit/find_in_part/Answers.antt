@@ -28,11 +28,8 @@ seen_of-requires-clause-places c = subst (λ h. HasReadsOf h c.args.part c.args.
 pub bad_writes_of-requires : goal.bad_writes_of-requires
 bad_writes_of-requires c = is_scope (goal.at.bad_writes_of-requires c).After-numbers_within-first
 
-pub unexplained_of-requires : goal.unexplained_of-requires
-unexplained_of-requires c = record { bad = rw c.deref.ensures.value c.in_ok-seen.ensures.bad_reads }
-
 pub returns : goal.returns
 returns c =
-    let found : PartFound = record { bad_reads = c.in_ok-seen.seen.bad_reads; bad_writes = c.in_ok-bad_writes_of.field-0; unexplained = c.in_ok-unexplained_of.field-0; saw = c.in_ok-seen.seen.saw; missed = c.in_ok-seen.seen.missed } in
+    let found : PartFound = record { bad_reads = c.in_ok-seen.seen.wrong.bad_reads; bad_writes = c.in_ok-bad_writes_of.field-0; unexplained = c.in_ok-seen.seen.wrong.unexplained; saw = c.in_ok-seen.seen.saw; missed = c.in_ok-seen.seen.missed } in
     subst (λ h. IsPartFound h (IsInPart c.args.part) found) c.requires.index
-    (record { bad_reads = c.in_ok-seen.ensures.bad_reads; bad_writes = c.in_ok-bad_writes_of.ensures; unexplained = c.in_ok-unexplained_of.ensures; sights = c.in_ok-seen.ensures.sights })
+    (record { bad_reads = c.in_ok-seen.ensures.bad_reads; bad_writes = c.in_ok-bad_writes_of.ensures; unexplained = c.in_ok-seen.ensures.unexplained; sights = c.in_ok-seen.ensures.sights })

@@ -1,6 +1,6 @@
 -- Each place adds what its event saw, and what all of the part saw is put in order.
 use Rattle.std.proofs.Common.{◌≡◌, ℕ, List, None, Some, get_or, refl, rules, subst, sym, ◌∙◌}
-use Rattle.std.specs.Prelude.{◌↔◌, ⊤, MatchOption}
+use Rattle.std.specs.Prelude.{◌↔◌, ⊤, IsSome, MatchOption}
 use Rattle.std.proofs.lemmas.Option.{same_Some}
 use Rattle.sia_events.specs.declared.event.Event.{Event}
 use Rattle.sia_events.specs.Events.{Saw}
@@ -8,16 +8,19 @@ use Rattle.sia_events.specs.Numbering.{names_of, event_of}
 use Rattle.sia_index.specs.declared.info.Reader.{Reader}
 use Rattle.sia_index.specs.Info.{IsReader}
 use Rattle.sia_index.specs.Numbers.{IsCommittedAt}
+use Rattle.sia_events.specs.Transactions.{IsCommitted}
+use Rattle.sia_parts.proofs.Auditing.Committing.{number_ends}
 use Rattle.sia_parts.specs.declared.audit.sights.Known.{Known}
 use Rattle.sia_parts.specs.Known.{IsKnown}
-use Rattle.sia_events.specs.Isolation.{IsBadRead}
+use Rattle.sia_events.specs.Isolation.{IsBadRead, IsUnexplained}
 use Rattle.sia_parts.specs.declared.finding.BadRead.{BadRead}
-use Rattle.sia_parts.specs.Entries.{bad_read_rank}
+use Rattle.sia_parts.specs.declared.finding.Unexplained.{Unexplained}
+use Rattle.sia_parts.specs.Entries.{bad_read_rank, unexplained_rank}
 use Rattle.sia_parts.specs.Parts.{IsInPart}
 use Rattle.sia_parts.specs.Seeing.{Gains, IsSightWithin}
-use Rattle.sia_parts.proofs.Shared.Listing.{put_listed, bad_read_before}
+use Rattle.sia_parts.proofs.Shared.Listing.{put_listed, bad_read_before, unexplained_before}
 use Rattle.sia_parts.proofs.Auditing.Gaining.{gains_all, gains_more, gains_nothing}
-use Rattle.sia_parts.proofs.Auditing.SeenAll.{bad_reads_are, sights_are}
+use Rattle.sia_parts.proofs.Auditing.SeenAll.{bad_reads_are, sights_are, unexplained_are}
 use Rattle.sia_parts.proofs.audit.seen_of.Goals.{Joined-last, in-Some-last, in_default-last, in_default-via-in-Some+else-is_read, in_default-via-in_default}
 use Rattle.sia_parts.proofs.audit.seen_of.Goals as goal
 
@@ -48,6 +51,7 @@ known_now c =
               name = is.txn_is;
               reader = own_reader h _ _ w.reader_at.result is;
               number = subst (λ t. (i : ℕ) → (w.committed_number.result ≡ Some i) ↔ IsCommittedAt h i t) (sym is.txn_is) w.committed_number.ensures;
+              ends = subst (λ t. IsSome w.committed_number.result ↔ IsCommitted h t) (sym is.txn_is) (number_ends h c.committed.result.now c.committed.ensures _ w.committed_number.result w.committed_number.ensures);
             };
           })
     ]
@@ -88,15 +92,27 @@ returns-clause-bad_reads c =
     let end = c.args.scope.now.end in
     let Q = λ (b : BadRead). IsBadRead h b.place b.txn b.key b.saw b.due × IsInPart c.args.scope.now.part b.key in
     put_listed bad_read_rank Q _ (λ x y is other less. bad_read_before h wf x y is.0 other.0 less) _ _
-    (bad_reads_are h wf c.keys_law.ensures.0 c.keys_law.ensures.1 c.args.scope.now.part first end c.requires.scope.each c.args.places.now c.requires.places _ c.loop-place.seen c.new.ensures.items c.new-2.ensures c.new-3.ensures
+    (bad_reads_are h wf c.keys_law.ensures.0 c.keys_law.ensures.1 c.args.scope.now.part first end c.requires.scope.each c.args.places.now c.requires.places _ c.loop-place.seen c.new.ensures.items c.new-2.ensures.items c.new-3.ensures c.new-4.ensures
     (gains_all h (λ place. IsSightWithin h place first end) c.args.places.now c.loop-place.place-index _ c.loop-place.seen c.loop-place-test.false c.loop-place.invariant.gains))
     c.in_ok-put_in_order.ensures.sorted c.in_ok-put_in_order.ensures.keeps c.in_ok-put_in_order.ensures.adds_none
+
+pub returns-clause-unexplained : goal.returns-clause-unexplained
+returns-clause-unexplained c =
+    let h = c.args.scope.now.ix.now in
+    let wf = c.requires.scope.well_formed in
+    let first = c.args.scope.now.first in
+    let end = c.args.scope.now.end in
+    let Q = λ (u : Unexplained). IsUnexplained h u.place u.txn u.key u.saw × IsInPart c.args.scope.now.part u.key in
+    put_listed unexplained_rank Q _ (λ x y is other less. unexplained_before h wf x y is.0 other.0 less) _ _
+    (unexplained_are h wf c.keys_law.ensures.0 c.keys_law.ensures.1 c.args.scope.now.part first end c.requires.scope.each c.args.places.now c.requires.places _ c.loop-place.seen c.new.ensures.items c.new-2.ensures.items c.new-3.ensures c.new-4.ensures
+    (gains_all h (λ place. IsSightWithin h place first end) c.args.places.now c.loop-place.place-index _ c.loop-place.seen c.loop-place-test.false c.loop-place.invariant.gains))
+    c.in_ok-put_in_order-2.ensures.sorted c.in_ok-put_in_order-2.ensures.keeps c.in_ok-put_in_order-2.ensures.adds_none
 
 pub returns-clause-sights : goal.returns-clause-sights
 returns-clause-sights c =
     let h = c.args.scope.now.ix.now in
     let first = c.args.scope.now.first in
     let end = c.args.scope.now.end in
-    sights_are h c.requires.scope.well_formed c.keys_law.ensures.0 c.keys_law.ensures.1 c.args.scope.now.part first end c.requires.scope.each c.args.places.now c.requires.places _ c.loop-place.seen c.new.ensures.items c.new-2.ensures c.new-3.ensures
+    sights_are h c.requires.scope.well_formed c.keys_law.ensures.0 c.keys_law.ensures.1 c.args.scope.now.part first end c.requires.scope.each c.args.places.now c.requires.places _ c.loop-place.seen c.new.ensures.items c.new-2.ensures.items c.new-3.ensures c.new-4.ensures
     (gains_all h (λ place. IsSightWithin h place first end) c.args.places.now c.loop-place.place-index _ c.loop-place.seen c.loop-place-test.false c.loop-place.invariant.gains)
     c.committed.result.now c.committed.ensures

@@ -6,7 +6,8 @@ use Rattle.sia_events.specs.Transactions.{WroteBefore}
 use Rattle.sia_index.specs.Info.{IsKeyAt}
 use Rattle.sia_index.proofs.Shared.KeyChains.{key_number}
 use Rattle.sia_parts.proofs.Shared.OneNumber.{one_key}
-use Rattle.sia_parts.proofs.Auditing.Passing.{bad_then, none_bad, one_bad, part_of_gap}
+use Rattle.sia_parts.proofs.Auditing.Gaining.{wrong_then}
+use Rattle.sia_parts.proofs.Auditing.Passing.{none_wrong, one_wrong, part_of_gap}
 use Rattle.sia_parts.proofs.audit.ranges.put_unlisted.Goals as goal
 use Rattle.sia_parts.proofs.audit.ranges.put_unlisted.Goals.{then-own, else-own}
 
@@ -27,8 +28,8 @@ bounds-written_keys-number c =
     let saw = gap.unlisted c.in-Some.number (omega arith) (omega arith) in
     (key_number c.args.ix.now c.written_keys.result.now c.written_keys.ensures c.in-Some.number saw.0 saw.1).0
 
-pub due_at-requires-clause-key : goal.due_at-requires-clause-key
-due_at-requires-clause-key c =
+pub due_at-due-requires-clause-key : goal.due_at-due-requires-clause-key
+due_at-due-requires-clause-key c =
     let is = c.in-Some.ensures in
     let low = c.loop-number.invariant.low in
     let first = is.0 in
@@ -45,8 +46,8 @@ loop-number-preserved c =
     let low = c.loop-number.invariant.low in
     let first = is.0 in
     let less = is.1 in
-    let passed = none_bad h c.requires.well_formed c.args.known.now c.requires.known c.args.own c.args.from c.args.to c.requires.gap c.loop-number.next n low (omega arith) is.2 c.loop-number.bad.items in
-    let upto = bad_then h p c.args.from c.loop-number.next n low first c.args.bad.now.items c.loop-number.bad.items c.loop-number.bad.items c.loop-number.invariant.bad passed in
+    let passed = none_wrong h c.requires.well_formed c.args.known.now c.requires.known c.args.own c.args.from c.args.to c.requires.gap c.loop-number.next n low (omega arith) is.2 c.loop-number.wrong in
+    let upto = wrong_then h p c.args.from c.loop-number.next n low first c.args.wrong.now c.loop-number.wrong c.loop-number.wrong c.loop-number.invariant.wrong passed in
     let keys = c.written_keys.result.now in
     let known = c.args.known.now in
     let gap = part_of_gap h known c.args.own c.args.from c.args.to c.requires.gap n (n + 1) (omega arith) (omega arith) in
@@ -57,13 +58,13 @@ loop-number-preserved c =
       | then-own w ↦ rw w.mine-is w.wrote_before-mine.ensures
       | else-own w ↦ rw w.mine-is ((λ e. absurd cc), (λ before. absurd (gap.not_own w.if-own.false n key (omega arith) (omega arith) at before)))
     ] in
-    let due = c.due_at.ensures key at mine in
-    let adds = c.in_ok-put_if_bad.ensures h (subst (λ k. SawAt h known.reader.place known.reader.txn k 0) (one_key h n saw.0 key saw.1 at) saw.2) due in
-    let one = one_bad h c.requires.well_formed known c.requires.known c.args.own n (n + 1) gap n key (omega arith) (omega arith) at c.loop-number.bad.items c.put_if_bad.new.bad.items (λ here. adds) in
+    let due = c.due_at-due.ensures key at mine in
+    let adds = c.in_ok-put_if_bad.ensures h c.requires.well_formed c.requires.known (subst (λ k. SawAt h known.reader.place known.reader.txn k 0) (one_key h n saw.0 key saw.1 at) saw.2) due ((λ no. absurd cc), (λ loose. absurd (loose.0 refl))) in
+    let one = one_wrong h c.requires.well_formed known c.requires.known c.args.own n (n + 1) gap n key (omega arith) (omega arith) at c.loop-number.wrong c.put_if_bad.new.wrong (λ here. adds) in
     record {
       low = omega arith;
       high = omega arith;
-      bad = bad_then h p c.args.from n (n + 1) (omega arith) (omega arith) c.args.bad.now.items c.loop-number.bad.items c.put_if_bad.new.bad.items upto one;
+      wrong = wrong_then h p c.args.from n (n + 1) (omega arith) (omega arith) c.args.wrong.now c.loop-number.wrong c.put_if_bad.new.wrong upto one;
     }
 
 pub returns : goal.returns
@@ -72,5 +73,5 @@ returns c =
     let p = c.args.known.now.reader.place in
     let low = c.loop-number.invariant.low in
     let high = c.loop-number.invariant.high in
-    let passed = none_bad h c.requires.well_formed c.args.known.now c.requires.known c.args.own c.args.from c.args.to c.requires.gap c.loop-number.next c.args.to low (omega arith) c.in_default.ensures c.loop-number.bad.items in
-    bad_then h p c.args.from c.loop-number.next c.args.to low high c.args.bad.now.items c.loop-number.bad.items c.loop-number.bad.items c.loop-number.invariant.bad passed
+    let passed = none_wrong h c.requires.well_formed c.args.known.now c.requires.known c.args.own c.args.from c.args.to c.requires.gap c.loop-number.next c.args.to low (omega arith) c.in_default.ensures c.loop-number.wrong in
+    wrong_then h p c.args.from c.loop-number.next c.args.to low high c.args.wrong.now c.loop-number.wrong c.loop-number.wrong c.loop-number.invariant.wrong passed

@@ -1,12 +1,12 @@
 -- What was seen is due, and its look is added.
-use Rattle.std.proofs.Common.{refl}
+use Rattle.std.proofs.Common.{◌≡◌, subst, sym}
+use Rattle.sia_events.specs.Reads.{IsDue}
 use Rattle.sia_index.specs.declared.info.KeyVersion.{KeyVersion}
 use Rattle.sia_index.specs.Positions.{IsAtPosition, IsNewestAsOf}
 use Rattle.sia_parts.specs.declared.audit.sights.View.{View}
-use Rattle.sia_parts.specs.Sights.{IsBadOf}
-use Rattle.sia_parts.proofs.Shared.Adding.{adds_nothing}
+use Rattle.sia_parts.specs.Sights.{Sight}
 use Rattle.sia_parts.proofs.Auditing.Gaining.{look_gains}
-use Rattle.sia_parts.proofs.Auditing.Saw.{bad_none}
+use Rattle.sia_parts.proofs.Auditing.Saw.{due_not_wrong}
 use Rattle.sia_parts.proofs.Auditing.Viewing.{gains_view, on_ok, saw_other, seen_is_due, seen_sight, stands}
 use Rattle.sia_parts.proofs.audit.sights.put_view.Goals as goal
 
@@ -24,6 +24,6 @@ returns-then-is_newest c =
     let there = stands h wf known is_known view is c.in-Some.position c.in-Some.is in
     let sight = seen_sight h wf known is_known view is in
     on_ok c.put_position.result _ _
-    (λ adds. gains_view h wf known is_known view is c.args.seen.now c.args.seen.now.bad_reads c.put_position.new.saw (adds_nothing (IsBadOf h sight) c.args.seen.now.bad_reads.items (bad_none h sight sight.saw due refl))
+    (λ adds. gains_view h wf known is_known view is c.args.seen.now c.args.seen.now.wrong c.put_position.new.saw (due_not_wrong h wf (λ s. s ≡ sight) (λ s same. subst (λ (x : Sight). IsDue h x.txn x.place x.key x.saw) (sym same) due) c.args.seen.now.wrong)
     (look_gains h wf sight known.number c.in-Some.position is_known.number (saw_other h wf known is_known view is no) there c.args.seen.now.saw c.put_position.new.saw adds))
     c.put_position.ensures
