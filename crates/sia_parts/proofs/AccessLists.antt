@@ -1,3 +1,4 @@
+pub mod Closing
 pub mod Dealt
 pub mod Joined
 pub mod LastLists

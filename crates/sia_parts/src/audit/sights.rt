@@ -198,8 +198,7 @@ pub(crate) fn due_at(ix: &Index, known: &Known, key: u32, mine: bool) -> Version
     }
 }
 
-/// Adds the reader's read of the version of a key, if another one was due. A version that isn't `committed` is neither 0 nor that of a
-/// committed transaction.
+/// Adds the reader's read of a version, if another one was due. Those of committed transactions and 0 are `committed`.
 pub(crate) fn put_if_bad(
     known: &Known,
     pair: (Key, Version),
