@@ -32,6 +32,13 @@ StandsAt h i p e = ((e ≡ p) × ¬ IsNextMaker h p i) ⊎ IsNextOwn h i p e
 abbrev pub IsLookAt : List Event → Accesses → ℕ → ℕ → Type 0
 IsLookAt h a i p = SawPosition a i p ⊎ ((j : ℕ) × (v : KeyVersion) × IsOwnPassed h a i j × IsAtPosition h p v × IsKeyAt h j v.key × (v.commit ≡ 0))
 
+-- the table is raised to a number where number i, who looked at positions, stands, and nowhere else
+pub record IsRaised (h : List Event) (i : ℕ) (IsLook : ℕ → Type 0) (old new : List ℕ) (to : ℕ) : Type 0 where
+  pub long : length new ≡ length old
+  pub kept : (e : ℕ) → slice_index old e ≤ slice_index new e
+  pub sound : (e x : ℕ) → x ≤ slice_index new e → (x ≤ slice_index old e) ⊎ ((p : ℕ) × IsLook p × StandsAt h i p e × (x ≤ to))
+  pub has : (p : ℕ) → IsLook p → (e : ℕ) × StandsAt h i p e × (to ≤ slice_index new e)
+
 -- for each of the first n numbers its value is marked where it stands, and there are no other marks
 pub record AreSeenMarks (h : List Event) (a : Accesses) (values : List ℕ) (n : ℕ) (seen : List ℕ) : Type 0 where
   pub long : ArePositions h (length seen)

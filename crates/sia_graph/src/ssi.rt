@@ -1,18 +1,18 @@
 //! The test of serializable snapshot isolation, and the dangerous structure that is told where it fails.
-ghost use Rattle.std.specs.Prelude.{◌≡◌, ◌↔◌, ◌<◌, [], ℕ, ⊤, All, IfOk, IsTrue, List, MatchOption, ◌⊎◌, ◌*◌, ◌+◌, ◌≤◌, Contains, OnOk, length, slice_index};
+ghost use Rattle.std.specs.Prelude.{◌≡◌, ◌↔◌, ◌<◌, [], ℕ, ⊤, All, IfOk, IsTrue, List, MatchOption, ◌⊎◌, ◌*◌, ◌+◌, ◌≤◌, Contains, OnOk, length, max, slice_index, slice_set};
 ghost use Rattle.sia_events.specs.declared.event.Event.{Event};
 ghost use Rattle.sia_events.specs.DangerousStructures.{IsFirst, NoFirst, PassesSsi};
 ghost use Rattle.sia_events.specs.Isolation.{IsolationKept};
 ghost use Rattle.sia_events.specs.Transactions.{CommitsAt, IsCommitted};
 ghost use Rattle.sia_index.specs.Numbers.{IsCommittedAt};
-ghost use Rattle.sia_index.specs.Positions.{HasPosition};
+ghost use Rattle.sia_index.specs.Positions.{ArePositions, HasPosition};
 ghost use Rattle.sia_parts.specs.Findings.{AreFindings, ListsBadReads, ListsBadWrites};
 ghost use Rattle.sia_graph.specs.Dangerous.{HasFirst, IsDangerous, IsLeast, MayBeFirst};
 ghost use Rattle.sia_graph.specs.EarlyVersions.{HasEarly, IsLimit};
 ghost use Rattle.sia_graph.specs.Evidence.{IsEvidence};
 ghost use Rattle.sia_graph.specs.Pivots.{ArePivots};
 ghost use Rattle.sia_events.specs.Lists.{ListsAscending};
-ghost use Rattle.sia_graph.specs.Late.{AreLate, Enters, IsLastOf, IsLookAt, IsMarkedOver, StandsAt};
+ghost use Rattle.sia_graph.specs.Late.{AreLate, Enters, IsLastOf, IsLookAt, IsMarkedOver, IsRaised, StandsAt};
 ghost use Rattle.sia_graph.specs.Passed.{IsOwnPassed};
 
 use crate::cycle::least_rw;
@@ -192,6 +192,15 @@ pub fn dangerous_of(alloc: Global, evidence: &Evidence) -> Result<Option<Dangero
     }))
 }
 
+/// Raises the number at the place to another one.
+fn raise(table: &mut [u32], place: u32, to: u32)
+    requires { place < length table.old }
+    ensures { table.new ≡ slice_set table.old place (max (slice_index table.old place) to) }
+{
+    let at = place as usize;
+    table[at] = table[at].max(to);
+}
+
 fn raise_all(table: &mut [u32], places: &[u32], to: u32)
     requires { All (λ place. place < length table.old) places.now }
     ensures long { length table.new ≡ length table.old }
@@ -199,8 +208,7 @@ fn raise_all(table: &mut [u32], places: &[u32], to: u32)
         ↔ ((x ≤ slice_index table.old q) ⊎ (Contains places.now q × (x ≤ to))) }
 {
     for place in places {
-        let at = *place as usize;
-        table[at] = table[at].max(to);
+        raise(table, *place, to);
     }
 }
 
@@ -215,32 +223,23 @@ fn stand_of(index: &Index, txn: u32, position: u32) -> u32
     }
 }
 
-/// Adds where the transaction stands by what it saw, and by the keys that it passed over and made the first version of.
-fn put_stands(
-    evidence: &Evidence,
-    txn: u32,
-    own: &[u32],
-    places: &mut Vec<u32>,
-) -> Result<(), NoMemory>
+/// Raises the table where the transaction stands by what it saw, and by the keys that it passed over and made the first version of.
+fn raise_stands(evidence: &Evidence, txn: u32, own: &[u32], table: &mut [u32], to: u32)
     requires evidence { IsEvidence evidence.now }
     requires txn { (t : ℕ) × IsCommittedAt evidence.now.index.now txn t }
     requires own { (j : ℕ) → Contains own.now j
         ↔ IsOwnPassed evidence.now.index.now evidence.now.accesses.now txn j }
-    requires none { places.old.items ≡ [] }
-    ensures sound { OnOk result ((e : ℕ) → Contains places.new.items e
-        → (p : ℕ) × IsLookAt evidence.now.index.now evidence.now.accesses.now txn p
-        × StandsAt evidence.now.index.now txn p e) }
-    ensures has { OnOk result ((p : ℕ) → IsLookAt evidence.now.index.now evidence.now.accesses.now txn p
-        → (e : ℕ) × Contains places.new.items e × StandsAt evidence.now.index.now txn p e) }
+    requires table { ArePositions evidence.now.index.now (length table.old) }
+    ensures { IsRaised evidence.now.index.now txn (IsLookAt evidence.now.index.now evidence.now.accesses.now txn)
+        table.old table.new to }
 {
     let index = evidence.index;
     for position in evidence.accesses.saw.at(txn as usize) {
-        places.push(stand_of(index, txn, *position))?;
+        raise(table, stand_of(index, txn, *position), to);
     }
     for key in own {
-        places.push(stand_of(index, txn, index.first_position(*key)))?;
+        raise(table, stand_of(index, txn, index.first_position(*key)), to);
     }
-    Ok(())
 }
 
 /// The greatest mark that is with a block over the key.
@@ -270,30 +269,29 @@ fn late_of(alloc: Global, evidence: &Evidence, values: &[u32]) -> Result<Vec<u32
     ensures { IfOk result (λ late. AreLate evidence.now.index.now values.now late.items) }
 {
     let size = size_for(evidence);
-    let mut seen_marks = vec![in alloc; 0u32; evidence.index.position_count() as usize]?;
+    let mut late = vec![in alloc; 0u32; evidence.index.position_count() as usize]?;
     let mut block_marks = vec![in alloc; 0u32; 2 * size as usize]?;
-    let seen = seen_marks.as_mut_slice();
+    let seen = late.as_mut_slice();
     let most = block_marks.as_mut_slice();
     let mut passed = Passed::none(alloc);
     let mut places = Vec::new(alloc);
     for txn in 0..values.len() {
         passed.fill(evidence, txn as u32)?;
-        places.clear();
-        put_stands(evidence, txn as u32, &passed.own, &mut places)?;
-        raise_all(seen, &places, values[txn]);
+        raise_stands(evidence, txn as u32, &passed.own, seen, values[txn]);
         places.clear();
         put_all_blocks(size, &passed.stretches, &mut places)?;
         raise_all(most, &places, values[txn]);
     }
     let index = evidence.index;
-    let mut late = Vec::with_capacity(alloc, seen.len())?;
+    // Each mark gives way to the greatest of those before it.
     let mut last = 0;
     for position in 0..index.position_count() {
         if index.commit_at(position) == 0 {
             last = top_of(size, most, index.key_at(position));
         }
-        late.push(last)?;
-        last = last.max(seen[position as usize]);
+        let mark = seen[position as usize];
+        seen[position as usize] = last;
+        last = last.max(mark);
     }
     Ok(late)
 }

@@ -1,9 +1,9 @@
 -- The marks before each position of a key, position by position.
-use Rattle.std.proofs.Common.{◌≡◌, ◌⊎◌, inl, inr, ℕ, ◌+◌, ◌<◌, ◌≤◌, List, [], ◌∷◌, ◌++◌, length, get_or, refl, ap, sym, subst, ◌∙◌, arith}
+use Rattle.std.proofs.Common.{◌≡◌, ◌⊎◌, inl, inr, ℕ, ◌+◌, ◌<◌, ◌≤◌, List, [], ◌∷◌, length, get_or, set, refl, ap, sym, subst, ◌∙◌, arith}
 use Rattle.std.specs.Prelude.{◌↔◌}
 use Rattle.std.specs.List.{slice_get}
 use Rattle.std.proofs.lemmas.Bool.{cases_lt}
-use Rattle.std.proofs.lemmas.List.{get_or_append_left, get_or_push, length-append}
+use Rattle.std.proofs.lemmas.List.{get_or-set_other, get_or-set_same, length-set}
 use Rattle.std.proofs.lemmas.Option.{get_or_from_slice_get, slice_get_within}
 use Rattle.sia_events.specs.declared.event.Event.{Event}
 use Rattle.sia_events.specs.Lists.{Precedes}
@@ -59,30 +59,33 @@ module _ (h : List Event) where
       ]
 
   module _ (size : ℕ) (seen most : List ℕ) where
-    -- what is known at position q
+    -- what is known at position q, where the marks before it have given way
     pub record HasLastTo (q : ℕ) (late : List ℕ) (last : ℕ) : Type 0 where
-      pub long : length late ≡ q
+      pub long : length late ≡ length seen
+      pub left : (p : ℕ) → q ≤ p → get_or late p 0 ≡ get_or seen p 0
       pub each : (p : ℕ) (v : KeyVersion) → p < q → IsAtPosition h p v → 0 < v.commit → (x : ℕ) → 0 < x → (x ≤ get_or late p 0) ↔ IsMarkedBefore h size seen most p v x
       pub here : (v : KeyVersion) → IsAtPosition h q v → 0 < v.commit → (x : ℕ) → 0 < x → (x ≤ last) ↔ IsMarkedBefore h size seen most q v x
 
-    pub last_none : (late : List ℕ) → late ≡ [] → HasLastTo 0 late 0
-    last_none late empty = record {
-      long = ap (length {A = ℕ}) empty;
+    pub last_none : HasLastTo 0 seen 0
+    last_none = record {
+      long = refl;
+      left = λ p from. refl;
       each = λ p v below. absurd (omega arith);
       here = λ v at some. absurd (none_first v at some);
     }
 
-    pub last_more : (q : ℕ) (late : List ℕ) (last at_last next : ℕ) → (v : KeyVersion) → (at : IsAtPosition h q v) → HasLastTo q late last
+    pub last_more : (q : ℕ) (late : List ℕ) (last at_last next : ℕ) → (v : KeyVersion) → (at : IsAtPosition h q v) → q < length late → HasLastTo q late last
         → (0 < v.commit → at_last ≡ last) → (v.commit ≡ 0 → (j : ℕ) × IsKeyAt h j v.key × ((x : ℕ) → 0 < x → (x ≤ at_last) ↔ IsMarkedOver size most j x))
-        → ((x : ℕ) → (x ≤ next) ↔ ((x ≤ at_last) ⊎ (x ≤ get_or seen q 0))) → HasLastTo (q + 1) (late ++ at_last ∷ []) next
-    last_more q late last at_last next v at has kept anew greater = record {
-      long = let l = length-append late (at_last ∷ []) in let e = has.long in omega arith;
+        → ((x : ℕ) → (x ≤ next) ↔ ((x ≤ at_last) ⊎ (x ≤ get_or late q 0))) → HasLastTo (q + 1) (set late q at_last) next
+    last_more q late last at_last next v at inside has kept anew either = record {
+      long = length-set late q at_last ∙ has.long;
+      left = λ p from. get_or-set_other late q p at_last 0 (λ e. omega arith) ∙ has.left p (omega arith);
       each = λ p u below there some x positive. elim (cases_lt p q) [
-        | inl less ↦ subst (λ n. (x ≤ n) ↔ IsMarkedBefore h size seen most p u x) (sym (get_or_append_left late (at_last ∷ []) 0 p (let e = has.long in omega arith))) (has.each p u less there some x positive)
+        | inl less ↦ subst (λ n. (x ≤ n) ↔ IsMarkedBefore h size seen most p u x) (sym (get_or-set_other late q p at_last 0 (λ e. omega arith))) (has.each p u less there some x positive)
         | inr more ↦
             let same : q ≡ p = omega arith in
-            let is : get_or (late ++ at_last ∷ []) q 0 ≡ last = get_or_push late at_last 0 q has.long ∙ kept (of_here p u same there some) in
-            subst (λ r. (x ≤ get_or (late ++ at_last ∷ []) r 0) ↔ IsMarkedBefore h size seen most r u x) same
+            let is : get_or (set late q at_last) q 0 ≡ last = get_or-set_same late q at_last 0 inside ∙ kept (of_here p u same there some) in
+            subst (λ r. (x ≤ get_or (set late q at_last) r 0) ↔ IsMarkedBefore h size seen most r u x) same
             (subst (λ n. (x ≤ n) ↔ IsMarkedBefore h size seen most q u x) (sym is) (has.here u (subst (λ r. IsAtPosition h r u) (sym same) there) some x positive))
       ];
       here = λ w there some x positive. (
@@ -94,6 +97,9 @@ module _ (h : List Event) where
       );
     }
       where
+        greater : (x : ℕ) → (x ≤ next) ↔ ((x ≤ at_last) ⊎ (x ≤ get_or seen q 0))
+        greater x = subst (λ n. (x ≤ next) ↔ ((x ≤ at_last) ⊎ (x ≤ n))) (has.left q (omega arith)) (either x)
+
         of_here : (p : ℕ) (u : KeyVersion) → q ≡ p → IsAtPosition h p u → 0 < u.commit → 0 < v.commit
         of_here p u same there some = subst (λ (y : KeyVersion). 0 < y.commit) (one_at h q u v (subst (λ r. IsAtPosition h r u) (sym same) there) at) some
 
@@ -130,6 +136,6 @@ module _ (h : List Event) where
 
     pub last_all : (q : ℕ) (late : List ℕ) (last : ℕ) → ArePositions h (length seen) → length seen ≡ q → HasLastTo q late last → AreLastBefore h size seen most late
     last_all q late last positions all has = record {
-      long = has.long ∙ sym all;
+      long = has.long;
       each = λ p v at. has.each p v (let l = positions_below h (length seen) p positions (v, at) in omega arith) at;
     }

@@ -8,32 +8,32 @@ use Rattle.sia_index.specs.Numbers.{IsCommittedAt}
 use Rattle.sia_index.specs.Positions.{ArePositions}
 use Rattle.sia_parts.specs.declared.accesses.Accesses.{Accesses}
 use Rattle.sia_graph.specs.KeyBlocks.{IsUnderSome}
-use Rattle.sia_graph.specs.Late.{ArePassedMarks, AreSeenMarks, IsLookAt, IsMarkedOver, StandsAt}
+use Rattle.sia_graph.specs.Late.{ArePassedMarks, AreSeenMarks, IsLookAt, IsMarkedOver, IsRaised, StandsAt}
 use Rattle.sia_graph.specs.Passed.{IsPassed}
 use Rattle.sia_graph.proofs.SparseGraphs.KeyBlocks.{half_over, lower_over, one_block}
 
+-- one transaction more, where it stands
+pub seen_marked : (h : List Event) (a : Accesses) (values : List ℕ) (n t c : ℕ) → IsCommittedAt h n t → get_or values n 0 ≡ c → (old new : List ℕ) → AreSeenMarks h a values n old
+    → IsRaised h n (IsLookAt h a n) old new c → AreSeenMarks h a values (n + 1) new
+seen_marked h a values n t c at value old new marks raised = record {
+  long = subst (ArePositions h) (sym raised.long) marks.long;
+  sound = λ e x some le. elim (raised.sound e x le) [
+    | inl before ↦ marks.sound e x some before
+    | inr w ↦ let l = w.3 in (n, t, w.0, at, w.1, w.2, omega arith)
+  ];
+  has = λ i u p below there look. elim (cases_lt i n) [
+    | inl less ↦ let w = marks.has i u p less there look in (w.0, w.1, (let l = w.2 in let k = raised.kept w.0 in omega arith))
+    | inr more ↦
+        let same : i ≡ n = omega arith in
+        let w = raised.has p (subst (λ k. IsLookAt h a k p) same look) in
+        let e : get_or values i 0 ≡ c = ap (λ k. get_or values k 0) same ∙ value in
+        (w.0, subst (λ k. StandsAt h k p w.0) (sym same) w.1, (let l = w.2 in omega arith))
+  ];
+}
+
 module _ (h : List Event) (a : Accesses) (values : List ℕ) (n t c : ℕ) (at : IsCommittedAt h n t) (value : get_or values n 0 ≡ c) (old new places : List ℕ) (long : length new ≡ length old)
     (raised : (q x : ℕ) → (x ≤ get_or new q 0) ↔ ((x ≤ get_or old q 0) ⊎ (Contains places q × (x ≤ c)))) where
-  -- one transaction more, where it stands
-  pub seen_marked : AreSeenMarks h a values n old → ((e : ℕ) → Contains places e → (p : ℕ) × IsLookAt h a n p × StandsAt h n p e) → ((p : ℕ) → IsLookAt h a n p → (e : ℕ) × Contains places e × StandsAt h n p e)
-      → AreSeenMarks h a values (n + 1) new
-  seen_marked marks alone stands = record {
-    long = subst (ArePositions h) (sym long) marks.long;
-    sound = λ e x some le. elim ((raised e x).0 le) [
-      | inl before ↦ marks.sound e x some before
-      | inr here ↦ let w = alone e here.0 in let l = here.1 in (n, t, w.0, at, w.1, w.2, omega arith)
-    ];
-    has = λ i u p below there look. elim (cases_lt i n) [
-      | inl less ↦ let w = marks.has i u p less there look in (w.0, w.1, (raised w.0 (get_or values i 0)).1 (inl w.2))
-      | inr more ↦
-          let same : i ≡ n = omega arith in
-          let w = stands p (subst (λ k. IsLookAt h a k p) same look) in
-          let e : get_or values i 0 ≡ c = ap (λ k. get_or values k 0) same ∙ value in
-          (w.0, subst (λ k. StandsAt h k p w.0) (sym same) w.2, (raised w.0 (get_or values i 0)).1 (inr (w.1, omega arith)))
-    ];
-  }
-
-  -- and blocks over the keys that it passed over
+  -- one transaction more, at blocks over the keys that it passed over
   pub passed_marked : (size : ℕ) → ArePassedMarks h a values size n old → (Held : ℕ → Type 0) → ((j : ℕ) → j < size → IsUnderSome size places j ↔ (IsUnderSome size [] j ⊎ Held j))
       → ((b : ℕ) → Contains places b → Contains {X = ℕ} [] b ⊎ ((0 < b) × (b < 2 * size))) → ((j : ℕ) → Held j ↔ IsPassed h a n j) → ArePassedMarks h a values size (n + 1) new
   passed_marked size marks Held over within held = record {

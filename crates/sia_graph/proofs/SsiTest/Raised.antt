@@ -5,6 +5,20 @@ use Rattle.std.proofs.lemmas.Bool.{cases_eq, cases_lt}
 use Rattle.std.proofs.lemmas.List.{get_or-set_other, get_or-set_same, length-set, take_all, take_more}
 use Rattle.std.proofs.lemmas.List.Elements.{Contains-append_left, Contains-push, Contains-push_cases}
 
+-- one number
+pub raised_at : (table : List ℕ) (at to : ℕ) → at < length table → (q x : ℕ) → (x ≤ get_or (set table at (max (get_or table at 0) to)) q 0) ↔ ((x ≤ get_or table q 0) ⊎ ((at ≡ q) × (x ≤ to)))
+raised_at table at to inside q x =
+    let most = max (get_or table at 0) to in
+    elim (cases_eq q at) [
+      | inl here ↦
+          let is : get_or (set table at most) q 0 ≡ most = ap (λ k. get_or (set table at most) k 0) here ∙ get_or-set_same table at most 0 inside in
+          let was : get_or table q 0 ≡ get_or table at 0 = ap (λ k. get_or table k 0) here in (
+            (λ l. elim (cases_lt (get_or table at 0) to) [ inl less ↦ inr (sym here, omega arith) | inr more ↦ inl (omega arith) ]),
+            (λ e. elim e [ inl o ↦ omega arith | inr w ↦ let l = w.1 in omega arith ]),
+          )
+      | inr other ↦ let is = get_or-set_other table at q most 0 other in ((λ l. inl (omega arith)), (λ e. elim e [ inl o ↦ omega arith | inr w ↦ absurd (other (sym w.0)) ]))
+    ]
+
 -- those at the first n places
 pub record HasRaised (old places : List ℕ) (n to : ℕ) (table : List ℕ) : Type 0 where
   pub long : length table ≡ length old
@@ -14,41 +28,26 @@ pub raised_none : (old places : List ℕ) (to : ℕ) → HasRaised old places 0 
 raised_none old places to = record { long = refl; each = λ q x. ((λ l. inl l), (λ e. elim e [ inl l ↦ l | inr c ↦ let b = c.0.1 in absurd (omega arith) ])) }
 
 pub raised_more : (old places : List ℕ) (n d to : ℕ) (table : List ℕ) → n < length places → get_or places n d < length old → HasRaised old places n to table
-    → (most : ℕ) → (most ≡ to) ⊎ (most ≡ get_or table (get_or places n d) 0) → to ≤ most → get_or table (get_or places n d) 0 ≤ most
-    → HasRaised old places (n + 1) to (set table (get_or places n d) most)
-raised_more old places n d to table below inside before most which up over = record {
-  long = length-set table at most ∙ before.long;
-  each = λ q x. elim (cases_eq q at) [
-    | inl here ↦
-        let is : get_or (set table at most) q 0 ≡ most = ap (λ k. get_or (set table at most) k 0) here ∙ get_or-set_same table at most 0 (let l = before.long in omega arith) in
-        let was : get_or table q 0 ≡ get_or table at 0 = ap (λ k. get_or table k 0) here in
-        let held = before.each q x in (
-          (λ l. elim which [
-            | inl e ↦ inr (subst (λ (xs : List ℕ). Contains xs q) (sym (take_more places n d below)) (subst (λ k. Contains (take n places ++ at ∷ []) k) (sym here) (Contains-push (take n places) at)), omega arith)
-            | inr e ↦ elim (held.0 (omega arith)) [ inl o ↦ inl o | inr c ↦ inr (grown q c.0, c.1) ]
-          ]),
-          (λ e. elim e [
-            | inl o ↦ let l = held.1 (inl o) in omega arith
-            | inr c ↦ let l = c.1 in omega arith
-          ]),
-        )
-    | inr other ↦
-        let is : get_or (set table at most) q 0 ≡ get_or table q 0 = get_or-set_other table at q most 0 other in
-        let held = before.each q x in (
-          (λ l. elim (held.0 (omega arith)) [ inl o ↦ inl o | inr c ↦ inr (grown q c.0, c.1) ]),
-          (λ e. let l = held.1 (elim e [
-            | inl o ↦ inl o
-            | inr c ↦ elim (Contains-push_cases (take n places) at q (subst (λ (xs : List ℕ). Contains xs q) (take_more places n d below) c.0)) [ inl b ↦ inr (b, c.1) | inr same ↦ absurd (other (sym same)) ]
-          ]) in omega arith),
-        )
-  ];
-}
-  where
-    at : ℕ
-    at = get_or places n d
-
-    grown : (q : ℕ) → Contains (take n places) q → Contains (take (n + 1) places) q
-    grown q c = subst (λ (xs : List ℕ). Contains xs q) (sym (take_more places n d below)) (Contains-append_left (take n places) (get_or places n d ∷ []) q c)
+    → HasRaised old places (n + 1) to (set table (get_or places n d) (max (get_or table (get_or places n d) 0) to))
+raised_more old places n d to table below inside before =
+    let at = get_or places n d in
+    let first = take n places in
+    let more = take_more places n d below in
+    record {
+      long = length-set table at (max (get_or table at 0) to) ∙ before.long;
+      each = λ q x.
+          let now = raised_at table at to (let l = before.long in omega arith) q x in
+          let was = before.each q x in (
+            (λ l. elim (now.0 l) [
+              | inl under ↦ elim (was.0 under) [ inl o ↦ inl o | inr c ↦ inr (subst (λ (xs : List ℕ). Contains xs q) (sym more) (Contains-append_left first (at ∷ []) q c.0), c.1) ]
+              | inr here ↦ inr (subst (λ (xs : List ℕ). Contains xs q) (sym more) (subst (Contains (first ++ at ∷ [])) here.0 (Contains-push first at)), here.1)
+            ]),
+            (λ e. now.1 (elim e [
+              | inl o ↦ inl (was.1 (inl o))
+              | inr c ↦ elim (Contains-push_cases first at q (subst (λ (xs : List ℕ). Contains xs q) more c.0)) [ inl b ↦ inl (was.1 (inr (b, c.1))) | inr same ↦ inr (same, c.1) ]
+            ])),
+          );
+    }
 
 pub raised_all : (old places : List ℕ) (n to : ℕ) (table : List ℕ) → length places ≤ n → HasRaised old places n to table
     → (q x : ℕ) → (x ≤ get_or table q 0) ↔ ((x ≤ get_or old q 0) ⊎ (Contains places q × (x ≤ to)))

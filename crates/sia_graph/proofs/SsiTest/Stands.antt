@@ -1,8 +1,8 @@
 -- Where transactions stand, look by look.
-use Rattle.std.proofs.Common.{◌≡◌, ◌⊎◌, inl, inr, ℕ, ◌+◌, ◌<◌, ◌≤◌, List, [], ◌∷◌, ◌++◌, length, get_or, take, refl, sym, subst, ◌∙◌, arith}
+use Rattle.std.proofs.Common.{◌≡◌, ◌⊎◌, inl, inr, ℕ, ◌+◌, ◌<◌, ◌≤◌, List, [], ◌∷◌, length, max, get_or, set, take, refl, sym, subst, ◌∙◌, arith}
 use Rattle.std.specs.Prelude.{◌↔◌, ⊤, Contains}
 use Rattle.std.proofs.lemmas.Bool.{cases_order}
-use Rattle.std.proofs.lemmas.List.{take_more, take_all}
+use Rattle.std.proofs.lemmas.List.{length-set, take_more, take_all}
 use Rattle.std.proofs.lemmas.List.Elements.{Contains-append_left, Contains-push, Contains-push_cases}
 use Rattle.sia_events.specs.declared.event.Event.{Event}
 use Rattle.sia_events.specs.NarrowDependencies.{IsNextVersion, Looked}
@@ -12,10 +12,11 @@ use Rattle.sia_index.specs.Numbers.{IsCommittedAt}
 use Rattle.sia_index.specs.Positions.{HasPosition, IsAtPosition, NoneBehind}
 use Rattle.sia_parts.specs.declared.accesses.Accesses.{Accesses}
 use Rattle.sia_parts.specs.Accesses.{AreAccesses, SawPosition}
-use Rattle.sia_graph.specs.Late.{IsLookAt, StandsAt}
+use Rattle.sia_graph.specs.Late.{IsLookAt, IsRaised, StandsAt}
 use Rattle.sia_graph.specs.Makers.{IsMaker}
 use Rattle.sia_graph.specs.Passed.{IsOwnPassed}
 use Rattle.sia_graph.proofs.Shared.MakersTold.{next_told, none_next}
+use Rattle.sia_graph.proofs.SsiTest.Raised.{raised_at}
 use Rattle.sia_parts.proofs.EdgeRows.PositionOrder.{by_commit as commits_less, one_version as one_at}
 use Rattle.sia_parts.proofs.Shared.OneNumber.{one_key as one_key_at, one_committed as one_txn_at}
 
@@ -40,33 +41,33 @@ module _ (h : List Event) (i : ℕ) where
       pub stands_here : ¬ IsMaker h e i → StandsAt h i p p
       stands_here none = inl (refl, λ m. none ((next_told h p v at e w there some next i).1 m))
 
-  -- the places are those of the looks that have P
-  pub record HasStands (P : ℕ → Type 0) (places : List ℕ) : Type 0 where
-    pub sound : (e : ℕ) → Contains places e → (p : ℕ) × P p × StandsAt h i p e
-    pub has : (p : ℕ) → P p → (e : ℕ) × Contains places e × StandsAt h i p e
+  raised_none : (P : ℕ → Type 0) (old : List ℕ) (to : ℕ) → ((p : ℕ) → ¬ P p) → IsRaised h i P old old to
+  raised_none P old to none = record { long = refl; kept = λ e. omega arith; sound = λ e x l. inl l; has = λ p is. absurd (none p is) }
 
-  pub stands_none : (P : ℕ → Type 0) (places : List ℕ) → places ≡ [] → ((p : ℕ) → ¬ P p) → HasStands P places
-  stands_none P places empty none = record {
-    sound = λ e c. let l = (subst (λ (xs : List ℕ). Contains xs e) empty c).1 in absurd (omega arith);
-    has = λ p is. absurd (none p is);
-  }
+  -- one look more
+  raised_more : (P Q : ℕ → Type 0) (old table : List ℕ) (to p e : ℕ) → IsRaised h i P old table to → e < length table → StandsAt h i p e → ((q : ℕ) → P q → Q q) → Q p → ((q : ℕ) → Q q → P q ⊎ (p ≡ q))
+      → IsRaised h i Q old (set table e (max (get_or table e 0) to)) to
+  raised_more P Q old table to p e before inside here more own back =
+      let now = raised_at table e to inside in
+      record {
+        long = length-set table e (max (get_or table e 0) to) ∙ before.long;
+        kept = λ f. (now f (get_or old f 0)).1 (inl (before.kept f));
+        sound = λ f x l. elim ((now f x).0 l) [
+          | inl under ↦ elim (before.sound f x under) [ inl o ↦ inl o | inr w ↦ inr (w.0, more w.0 w.1, w.2, w.3) ]
+          | inr at ↦ inr (p, own, subst (StandsAt h i p) at.0 here, at.1)
+        ];
+        has = λ q look. elim (back q look) [
+          | inl had ↦ let w = before.has q had in (w.0, w.1, (now w.0 to).1 (inl w.2))
+          | inr same ↦ (e, subst (λ q. StandsAt h i q e) same here, (now e to).1 (inr (refl, omega arith)))
+        ];
+      }
 
-  pub stands_push : (P Q : ℕ → Type 0) (places new : List ℕ) (p e : ℕ) → HasStands P places → new ≡ places ++ e ∷ [] → StandsAt h i p e → ((q : ℕ) → P q → Q q) → Q p → ((q : ℕ) → Q q → P q ⊎ (p ≡ q)) → HasStands Q new
-  stands_push P Q places new p e stands is here more own back = record {
-    sound = λ f c. elim (Contains-push_cases places e f (subst (λ (xs : List ℕ). Contains xs f) is c)) [
-      | inl before ↦ let w = stands.sound f before in (w.0, more w.0 w.1, w.2)
-      | inr same ↦ (p, own, subst (StandsAt h i p) same here)
-    ];
-    has = λ q has. elim (back q has) [
-      | inl before ↦ let w = stands.has q before in (w.0, subst (λ (xs : List ℕ). Contains xs w.0) (sym is) (Contains-append_left places (e ∷ []) w.0 w.1), w.2)
-      | inr same ↦ (e, subst (λ (xs : List ℕ). Contains xs e) (sym is) (Contains-push places e), subst (λ q. StandsAt h i q e) same here)
-    ];
-  }
-
-  pub stands_same : (P Q : ℕ → Type 0) (places : List ℕ) → HasStands P places → ((p : ℕ) → P p ↔ Q p) → HasStands Q places
-  stands_same P Q places stands same = record {
-    sound = λ e c. let w = stands.sound e c in (w.0, (same w.0).0 w.1, w.2);
-    has = λ p q. stands.has p ((same p).1 q);
+  raised_same : (P Q : ℕ → Type 0) (old table : List ℕ) (to : ℕ) → IsRaised h i P old table to → ((p : ℕ) → P p ↔ Q p) → IsRaised h i Q old table to
+  raised_same P Q old table to raised same = record {
+    long = raised.long;
+    kept = raised.kept;
+    sound = λ e x l. elim (raised.sound e x l) [ inl o ↦ inl o | inr w ↦ inr (w.0, (same w.0).0 w.1, w.2, w.3) ];
+    has = λ p q. raised.has p ((same p).1 q);
   }
 
   -- by the first n of the positions that were seen, and then by the first n of the keys that were passed over
@@ -76,29 +77,33 @@ module _ (h : List Event) (i : ℕ) where
   abbrev pub IsOwnFirst : List ℕ → List ℕ → ℕ → ℕ → Type 0
   IsOwnFirst saw own n p = Contains saw p ⊎ ((j : ℕ) × (v : KeyVersion) × Contains (take n own) j × IsAtPosition h p v × IsKeyAt h j v.key × (v.commit ≡ 0))
 
-  pub seen_more : (saw : List ℕ) (n d : ℕ) (places new : List ℕ) (e : ℕ) → n < length saw → HasStands (IsSeenFirst saw n) places → new ≡ places ++ e ∷ [] → StandsAt h i (get_or saw n d) e → HasStands (IsSeenFirst saw (n + 1)) new
-  seen_more saw n d places new e below stands is here =
+  pub seen_none : (saw old : List ℕ) (to : ℕ) → IsRaised h i (IsSeenFirst saw 0) old old to
+  seen_none saw old to = raised_none (IsSeenFirst saw 0) old to (λ p c. let l = c.1 in omega arith)
+
+  pub seen_more : (saw : List ℕ) (n d : ℕ) (old table : List ℕ) (to e : ℕ) → n < length saw → IsRaised h i (IsSeenFirst saw n) old table to → e < length table → StandsAt h i (get_or saw n d) e
+      → IsRaised h i (IsSeenFirst saw (n + 1)) old (set table e (max (get_or table e 0) to)) to
+  seen_more saw n d old table to e below raised inside here =
       let p = get_or saw n d in
       let more = take_more saw n d below in
-      stands_push (IsSeenFirst saw n) (IsSeenFirst saw (n + 1)) places new p e stands is here
+      raised_more (IsSeenFirst saw n) (IsSeenFirst saw (n + 1)) old table to p e raised inside here
       (λ q c. subst (λ (xs : List ℕ). Contains xs q) (sym more) (Contains-append_left (take n saw) (p ∷ []) q c))
       (subst (λ (xs : List ℕ). Contains xs p) (sym more) (Contains-push (take n saw) p))
       (λ q c. Contains-push_cases (take n saw) p q (subst (λ (xs : List ℕ). Contains xs q) more c))
 
-  pub seen_all : (saw own : List ℕ) (n : ℕ) (places : List ℕ) → length saw ≤ n → HasStands (IsSeenFirst saw n) places → HasStands (IsOwnFirst saw own 0) places
-  seen_all saw own n places all stands =
-      stands_same (IsSeenFirst saw n) (IsOwnFirst saw own 0) places stands
+  pub seen_all : (saw own : List ℕ) (n : ℕ) (old table : List ℕ) (to : ℕ) → length saw ≤ n → IsRaised h i (IsSeenFirst saw n) old table to → IsRaised h i (IsOwnFirst saw own 0) old table to
+  seen_all saw own n old table to all raised =
+      raised_same (IsSeenFirst saw n) (IsOwnFirst saw own 0) old table to raised
       (λ p. (
         (λ c. inl (subst (λ (xs : List ℕ). Contains xs p) (take_all n saw all) c)),
         (λ e. elim e [ inl c ↦ subst (λ (xs : List ℕ). Contains xs p) (sym (take_all n saw all)) c | inr o ↦ let l = o.2.1 in absurd (omega arith) ]),
       ))
 
-  pub own_more : (saw own : List ℕ) (n d : ℕ) (places new : List ℕ) (p e : ℕ) (v : KeyVersion) → n < length own → HasStands (IsOwnFirst saw own n) places → new ≡ places ++ e ∷ []
-      → IsAtPosition h p v → IsKeyAt h (get_or own n d) v.key → v.commit ≡ 0 → StandsAt h i p e → HasStands (IsOwnFirst saw own (n + 1)) new
-  own_more saw own n d places new p e v below stands is at key zero here =
+  pub own_more : (saw own : List ℕ) (n d : ℕ) (old table : List ℕ) (to p e : ℕ) (v : KeyVersion) → n < length own → IsRaised h i (IsOwnFirst saw own n) old table to → e < length table
+      → IsAtPosition h p v → IsKeyAt h (get_or own n d) v.key → v.commit ≡ 0 → StandsAt h i p e → IsRaised h i (IsOwnFirst saw own (n + 1)) old (set table e (max (get_or table e 0) to)) to
+  own_more saw own n d old table to p e v below raised inside at key zero here =
       let j = get_or own n d in
       let more = take_more own n d below in
-      stands_push (IsOwnFirst saw own n) (IsOwnFirst saw own (n + 1)) places new p e stands is here
+      raised_more (IsOwnFirst saw own n) (IsOwnFirst saw own (n + 1)) old table to p e raised inside here
       (λ q o. elim o [
         | inl c ↦ inl c
         | inr w ↦ inr (w.0, w.1, subst (λ (xs : List ℕ). Contains xs w.0) (sym more) (Contains-append_left (take n own) (j ∷ []) w.0 w.2), w.3, w.4, w.5)
@@ -112,10 +117,10 @@ module _ (h : List Event) (i : ℕ) where
         ]
       ])
 
-  pub own_all : (a : Accesses) (saw own : List ℕ) (n : ℕ) (places : List ℕ) → length own ≤ n → ((q : ℕ) → Contains saw q ↔ SawPosition a i q) → ((j : ℕ) → Contains own j ↔ IsOwnPassed h a i j)
-      → HasStands (IsOwnFirst saw own n) places → HasStands (IsLookAt h a i) places
-  own_all a saw own n places all saw_are own_are stands =
-      stands_same (IsOwnFirst saw own n) (IsLookAt h a i) places stands
+  pub own_all : (a : Accesses) (saw own : List ℕ) (n : ℕ) (old table : List ℕ) (to : ℕ) → length own ≤ n → ((q : ℕ) → Contains saw q ↔ SawPosition a i q) → ((j : ℕ) → Contains own j ↔ IsOwnPassed h a i j)
+      → IsRaised h i (IsOwnFirst saw own n) old table to → IsRaised h i (IsLookAt h a i) old table to
+  own_all a saw own n old table to all saw_are own_are raised =
+      raised_same (IsOwnFirst saw own n) (IsLookAt h a i) old table to raised
       (λ p. (
         (λ o. elim o [ inl c ↦ inl ((saw_are p).0 c) | inr w ↦ inr (w.0, w.1, (own_are w.0).0 (subst (λ (xs : List ℕ). Contains xs w.0) (take_all n own all) w.2), w.3, w.4, w.5) ]),
         (λ l. elim l [ inl s ↦ inl ((saw_are p).1 s) | inr w ↦ inr (w.0, w.1, subst (λ (xs : List ℕ). Contains xs w.0) (sym (take_all n own all)) ((own_are w.0).1 w.2), w.3, w.4, w.5) ]),
@@ -125,10 +130,6 @@ module _ (h : List Event) (i : ℕ) where
 pub stands_there : (h : List Event) (i p e : ℕ) → HasPosition h p → StandsAt h i p e → HasPosition h e
 stands_there h i p e has (inl here) = subst (HasPosition h) (sym here.0) has
 stands_there h i p e has (inr own) = (own.1, own.3)
-
-pub look_there : (h : List Event) (a : Accesses) (are : AreAccesses h (λ _. ⊤) a) (i p : ℕ) → IsLookAt h a i p → HasPosition h p
-look_there h a are i p (inl saw) = let w = are.saw i p saw in (w.3.version.0, w.3.version.1)
-look_there h a are i p (inr own) = (own.1, own.3)
 
 -- a look at a position is one of the transaction
 pub look_at : (h : List Event) (a : Accesses) (are : AreAccesses h (λ _. ⊤) a) (i t p : ℕ) → IsCommittedAt h i t → IsLookAt h a i p → (u : KeyVersion) × IsAtPosition h p u × Looked h t u.key u.commit

@@ -7,4 +7,4 @@ abbrev pub invariant-loop-txn : goal.invariant-loop-txn
 invariant-loop-txn l = AreSeenMarks l.evidence.index.now l.evidence.accesses.now l.values l.txn l.seen × ArePassedMarks l.evidence.index.now l.evidence.accesses.now l.values l.size l.txn l.most × (l.txn ≤ l.txn-end)
 
 abbrev pub invariant-loop-position : goal.invariant-loop-position
-invariant-loop-position l = HasLastTo l.index l.size l.seen l.most l.position l.late.items l.last × (l.position ≤ l.position-end)
+invariant-loop-position l = HasLastTo l.index l.size l.initial.seen l.most l.position l.seen l.last × (l.position ≤ l.position-end)
