@@ -1,5 +1,5 @@
 -- What the front of an order keeps, while an order is made one transaction at a time.
-use Rattle.std.specs.Prelude.{◌≡◌, ◌⊎◌, ℕ, ◌<◌, ◌==◌, ◌||◌, Bool, false, not, List, [], ◌∷◌, slice_get, count_by, Some, ⊤}
+use Rattle.std.specs.Prelude.{◌≡◌, ◌⊎◌, ℕ, ◌<◌, ◌==◌, ◌||◌, Bool, false, List, [], ◌∷◌, slice_get, Some, ⊤}
 use Rattle.sia_parts.specs.declared.finding.Edge.{Edge}
 use Rattle.sia_graph.specs.Orders.{Leads, IsKeepingOrder}
 
@@ -20,7 +20,3 @@ pub record IsFront (IsMember : ℕ → Type 0) (IsEdge : Edge → Type 0) (front
   pub once : (t i j : ℕ) → slice_get front i ≡ Some t → slice_get front j ≡ Some t → i ≡ j
   pub closed : (s t i : ℕ) → Leads IsEdge s t → slice_get front i ≡ Some t → (j : ℕ) × (j < i) × (slice_get front j ≡ Some s)
   pub no_later : (order : List ℕ) → IsKeepingOrder IsMember IsEdge order → IsNoLater front order
-
--- how many of ids aren't in the front
-abbrev pub left_over : List ℕ → List ℕ → ℕ
-left_over ids front = count_by (λ t. not (stands front t)) ids

@@ -126,6 +126,7 @@ pub fn settle_accesses(alloc: Global, evidence: &Evidence) -> Result<Verdict, No
     match take_nodes(alloc, size, txns, &graph)? {
         Taken::Whole(order) => Ok(Verdict::Order(Txns::new(order))),
         Taken::Rest(left) => {
+            drop(graph);
             let earlier = Earlier::of(alloc, evidence, &left)?;
             let mut previous = Vec::with_capacity(alloc, left.len())?;
             for txn in 0..left.len() {

@@ -34,7 +34,7 @@ struct Taking {
     /// What holds each node back: steps that are counted, and one more until its sources are passed.
     counts: Vec<u32>,
     /// How many of its sources each node passed.
-    passed: Vec<usize>,
+    passed: Vec<u32>,
     /// The first of those that wait at each node, and for each that waits the next.
     first_waiting: Vec<u32>,
     next_waiting: Vec<u32>,
@@ -62,7 +62,7 @@ impl Taking {
         }
         Ok(Taking {
             counts,
-            passed: vec![in alloc; 0usize; nodes]?,
+            passed: vec![in alloc; 0u32; nodes]?,
             first_waiting: vec![in alloc; NONE; nodes]?,
             next_waiting: vec![in alloc; NONE; nodes]?,
             run: VecDeque::new(alloc),
@@ -90,12 +90,12 @@ impl Taking {
             return Ok(());
         }
         let sources = graph.sources.at(node);
-        let mut place = self.passed[node];
+        let mut place = self.passed[node] as usize;
         while place < sources.len() && done[sources[place] as usize] {
             place += 1;
         }
         if place < sources.len() {
-            self.passed[node] = place;
+            self.passed[node] = u32::try_from(place).ok().ok_or(NoMemory)?;
             let at = sources[place] as usize;
             self.next_waiting[node] = self.first_waiting[at];
             self.first_waiting[at] = node as u32;
@@ -185,20 +185,16 @@ pub(crate) fn take_nodes(
     for node in 0..nodes {
         taking.release(graph, &done, node)?;
     }
-    let mut order = Vec::with_capacity(alloc, nodes)?;
+    let mut order = Vec::with_capacity(alloc, txns.len())?;
     while let Some(node) = taking.take() {
-        order.push(node)?;
+        if node >= floor {
+            order.push(txns[node - floor])?;
+        }
         done[node] = true;
         taking.finish(graph, &done, node)?;
     }
     if done.iter().all(|is_done| *is_done) {
-        let mut names = Vec::with_capacity(alloc, txns.len())?;
-        for taken in order.as_slice() {
-            if *taken >= floor {
-                names.push(txns[*taken - floor])?;
-            }
-        }
-        return Ok(Taken::Whole(names));
+        return Ok(Taken::Whole(order));
     }
     let members = &done[floor..];
     Ok(Taken::Rest(members.iter().map(|is_done| !*is_done).collect(alloc)?))

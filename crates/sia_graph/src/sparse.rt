@@ -118,10 +118,11 @@ pub(crate) fn graph_of(alloc: Global, evidence: &Evidence, size: u32) -> Result<
         → IsSparse evidence.now.index.now size txns g) }
 {
     let nodes = 2 * size as usize + evidence.index.committed().len();
+    let seen = evidence.accesses.saw.rows().len();
     let positions = evidence.index.position_count() as usize;
     let mut graph = Graph {
-        targets: Lists::with_capacity(alloc, nodes, 2 * positions)?,
-        sources: Lists::with_capacity(alloc, nodes, positions)?,
+        targets: Lists::with_capacity(alloc, nodes, seen + 3 * size as usize)?,
+        sources: Lists::with_capacity(alloc, nodes, seen + positions)?,
     };
     let mut passed = Passed::none(alloc);
     let mut sources = Vec::new(alloc);

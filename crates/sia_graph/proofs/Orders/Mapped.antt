@@ -1,25 +1,19 @@
--- The names of nodes that are no blocks, made one after the other.
-use Rattle.std.proofs.Common.{◌≡◌, ℕ, ◌+◌, ◌<◌, ◌≤◌, true, false, not, cond, List, [], ◌∷◌, ◌++◌, length, get_or, map, nat_lt, take, append-nil, ap, sym, ◌∙◌}
+-- The names of the nodes of a front that are no blocks, made one after the other.
+use Rattle.std.proofs.Common.{◌≡◌, ℕ, ◌<◌, ◌≤◌, Bool, true, false, not, cond, List, [], ◌∷◌, ◌++◌, map, nat_lt, append-nil, ap, sym, ◌∙◌}
 use Rattle.std.proofs.lemmas.Bool.{le-ltb, lt-ltb, not_from_false, not_from_true}
-use Rattle.std.proofs.lemmas.List.Elements.{filter_more}
-use Rattle.sia_graph.specs.Blocks.{without_blocks}
 use Rattle.std.proofs.lemmas.List.{map-append}
+use Rattle.std.proofs.lemmas.List.Elements.{filter-append}
+use Rattle.sia_graph.specs.Blocks.{without_blocks}
 
--- of the nodes that are no blocks
-module _ (floor : ℕ) (f : ℕ → ℕ) (nodes : List ℕ) (k : ℕ) (within : k < length nodes) (made : List ℕ) (is : made ≡ map f (without_blocks floor (take k nodes))) where
-  abbrev x : ℕ
-  x = get_or nodes k 0
+-- one node more
+module _ (floor : ℕ) (f : ℕ → ℕ) (front : List ℕ) (t : ℕ) (names : List ℕ) (are : names ≡ map f (without_blocks floor front)) where
+  grown : (keep : Bool) → not (nat_lt t floor) ≡ keep → without_blocks floor (front ++ t ∷ []) ≡ without_blocks floor front ++ cond keep (t ∷ []) []
+  grown keep is = filter-append (λ u. not (nat_lt u floor)) front (t ∷ []) ∙ ap (λ b. without_blocks floor front ++ cond b (t ∷ []) []) is
 
-  abbrev first : List ℕ
-  first = without_blocks floor (take k nodes)
+  pub member_more : floor ≤ t → (more : List ℕ) → more ≡ names ++ f t ∷ [] → more ≡ map f (without_blocks floor (front ++ t ∷ []))
+  member_more no_block more pushed =
+      pushed ∙ ap (λ l. l ++ f t ∷ []) are
+      ∙ sym (ap (map f) (grown true (not_from_false (nat_lt t floor) (le-ltb t floor no_block))) ∙ map-append f (without_blocks floor front) (t ∷ []))
 
-  pub member_more : floor ≤ x → (y : ℕ) → y ≡ f x → (more : List ℕ) → more ≡ made ++ y ∷ [] → more ≡ map f (without_blocks floor (take (k + 1) nodes))
-  member_more no_block y e more pushed =
-      let test : not (nat_lt x floor) ≡ true = not_from_false (nat_lt x floor) (le-ltb x floor no_block) in
-      pushed ∙ (λ i. is i ++ e i ∷ [])
-      ∙ sym (ap (map f) (filter_more (λ t. not (nat_lt t floor)) nodes k 0 within ∙ ap (λ b. first ++ cond b (x ∷ []) []) test) ∙ map-append f first (x ∷ []))
-
-  pub block_more : x < floor → made ≡ map f (without_blocks floor (take (k + 1) nodes))
-  block_more block =
-      let test : not (nat_lt x floor) ≡ false = not_from_true (nat_lt x floor) (lt-ltb x floor block) in
-      is ∙ ap (map f) (sym (filter_more (λ t. not (nat_lt t floor)) nodes k 0 within ∙ ap (λ b. first ++ cond b (x ∷ []) []) test ∙ append-nil first))
+  pub block_more : t < floor → names ≡ map f (without_blocks floor (front ++ t ∷ []))
+  block_more block = are ∙ ap (map f) (sym (grown false (not_from_true (nat_lt t floor) (lt-ltb t floor block)) ∙ append-nil (without_blocks floor front)))

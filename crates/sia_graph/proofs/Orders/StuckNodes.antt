@@ -1,9 +1,9 @@
 -- Which nodes are taken, and which are left once none is ready: the stuck set.
 use Rattle.std.proofs.Common.{◌≡◌, ◌⊎◌, inl, inr, ℕ, zero, suc, ◌+◌, ◌*◌, ◌<◌, Bool, true, false, cond, not, List, [], ◌∷◌, length, get_or, slice_get, Some, ap, sym, ◌∙◌, subst, arith}
-use Rattle.std.specs.Prelude.{◌↔◌, All, Contains}
+use Rattle.std.specs.Prelude.{◌↔◌, Contains}
 use Rattle.std.specs.List.{filter, range_with_len}
 use Rattle.std.proofs.lemmas.Bool.{cases_Bool, not-true, not_from_false}
-use Rattle.std.proofs.lemmas.Option.{same_Some, slice_get-get_or}
+use Rattle.std.proofs.lemmas.Option.{same_Some}
 use Rattle.sia_graph.specs.Cycles.{IsStuckSet}
 use Rattle.sia_graph.specs.Graphs.{IsGraph, IsGraphEdge}
 use Rattle.sia_graph.specs.Orders.{IsLeastOrder}
@@ -40,9 +40,6 @@ module _ (p : ℕ → Bool) where
 module _ (n : ℕ) (g : Graph) (graph : IsGraph n g) (done : List Bool) (front : List ℕ) (last : IsLastFront (Contains (range_with_len 0 n)) g done front) where
   abbrev M : ℕ → Type 0
   M = Contains (range_with_len 0 n)
-
-  pub nodes_below : All (λ a. a < n) front
-  nodes_below k d l = range_in n (get_or front k d) (last.is_front.members (get_or front k d) k (slice_get-get_or front k d l))
 
   pub whole_order : ((t : ℕ) → t < n → IsDone done t) → IsLeastOrder M (IsGraphEdge g) front
   whole_order all =

@@ -1,20 +1,20 @@
 -- A front grows by a node that is ready.
-use Rattle.std.proofs.Common.{◌≡◌, inl, inr, ℕ, ◌+◌, ◌<◌, ◌≤◌, Bool, true, false, List, [], ◌∷◌, ◌++◌, length, get_or, set, refl, ap, sym, subst, ◌∙◌, arith}
-use Rattle.std.specs.Prelude.{◌↔◌, Contains, not}
+use Rattle.std.proofs.Common.{◌≡◌, inl, inr, ℕ, ◌+◌, ◌<◌, ◌≤◌, Bool, true, false, cond, List, [], ◌∷◌, ◌++◌, length, get_or, set, refl, ap, sym, subst, ◌∙◌, arith}
+use Rattle.std.specs.Prelude.{◌↔◌, Contains, sum_by}
 use Rattle.std.specs.List.{range_with_len}
-use Rattle.std.proofs.lemmas.Bool.{cases_eq, cases_lt, not-true, not_from_false, not_from_true}
+use Rattle.std.proofs.lemmas.Bool.{cases_eq, cases_lt}
 use Rattle.std.proofs.lemmas.List.{get_or-set_same, get_or-set_other, length-set}
+use Rattle.std.proofs.lemmas.List.Sums.{sum_by-set}
 use Rattle.std.proofs.lemmas.List.FromFn.{get_or-range_with_len, length-range_with_len}
 use Rattle.sia_parts.specs.declared.finding.Kind.TheVariants.{Ww}
-use Rattle.sia_graph.specs.Fronts.{IsFront, left_over, stands}
+use Rattle.sia_graph.specs.Fronts.{IsFront}
 use Rattle.sia_graph.specs.Graphs.{IsGraph, IsGraphEdge, LeadsTo}
 use Rattle.sia_graph.specs.Orders.{Leads}
 use Rattle.sia_graph.specs.UnderWay.{IsDone, IsLastFront, IsReadyIn, IsTaking, none_pending, told}
 use Rattle.sia_graph.specs.declared.order.Graph.{Graph}
 use Rattle.sia_graph.specs.declared.order.Taking.{Taking}
-use Rattle.sia_graph.proofs.Shared.Counted.{one_fewer}
 use Rattle.sia_graph.proofs.Shared.Fronts.{IsReady, front_more, front_none}
-use Rattle.sia_graph.proofs.Shared.Positions.{Stands, contains_stands, false_stands, stands_cases, stands_false, stands_last, stands_more, stands_true}
+use Rattle.sia_graph.proofs.Shared.Positions.{Stands, stands_cases, stands_last, stands_more}
 use Rattle.sia_graph.proofs.Orders.Told.{none_told, some_told}
 use Rattle.sia_graph.proofs.Orders.UnderWay.{waits_led}
 
@@ -126,16 +126,20 @@ module _ (n : ℕ) (g : Graph) (graph : IsGraph n g) (done : List Bool) (k : Tak
           ];
     }
 
--- one fewer is left over
-pub fewer_left : (n : ℕ) (front : List ℕ) (t : ℕ) → t < n → ¬ Stands front t → left_over (range_with_len 0 n) (front ++ t ∷ []) < left_over (range_with_len 0 n) front
-fewer_left n front t l outside =
-    let at = contains_stands (range_with_len 0 n) t (in_range n t l) in
-    one_fewer (λ u. not (stands front u)) (λ u. not (stands (front ++ t ∷ []) u))
-    (λ u out. not_from_false (stands front u)
-    (stands_false front u (λ s. false_stands (front ++ t ∷ []) u (not-true (stands (front ++ t ∷ []) u) out) (stands_more front t u s))))
-    (range_with_len 0 n) at.0 t at.1
-    (not_from_false (stands front t) (stands_false front t outside))
-    (not_from_true (stands (front ++ t ∷ []) t) (stands_true (front ++ t ∷ []) t (stands_last front t)))
+-- how many aren't done
+abbrev pub many_left : List Bool → ℕ
+many_left done = sum_by (λ d. cond d 0 1) done
+
+pub fewer_left : (done : List Bool) (t : ℕ) → t < length done → ¬ IsDone done t → many_left (set done t true) < many_left done
+fewer_left done t l out =
+    let weight : Bool → ℕ = λ d. cond d 0 1 in
+    let sum : many_left (set done t true) + weight (get_or done t false) ≡ many_left done + 0 = sum_by-set weight done t true false l in
+    let one : weight (get_or done t false) ≡ 1 = one_out (get_or done t false) out in
+    omega arith
+  where
+    one_out : (d : Bool) → ¬ (d ≡ true) → ◌≡◌ {A = ℕ} (cond d 0 1) 1
+    one_out true out = absurd (out refl)
+    one_out false out = refl
 
 -- nothing is done
 pub no_front : (n : ℕ) (g : Graph) (done : List Bool) → length done ≡ n → ((s : ℕ) → get_or done s false ≡ false) → IsFrontOf n g done []

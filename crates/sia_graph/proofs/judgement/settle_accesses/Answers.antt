@@ -121,7 +121,7 @@ cycle_of-requires-clause-least c =
 pub cycle_of-requires-clause-some : goal.cycle_of-requires-clause-some
 cycle_of-requires-clause-some c = rw c.deref-in-Rest.ensures.value (left_is (goal.at.cycle_of-requires-clause-some c).In-Rest).2.some
 
-pub returns : goal.returns
-returns c =
+pub returns-in_ok-steps-in-Rest : goal.returns-in_ok-steps-in-Rest
+returns-in_ok-steps-in-Rest c =
     let h = c.args.evidence.now.index.now in
-    ((left_is (goal.at.returns c).In-Rest).2.none_keeps, subst (IsPrintedCycle (IsCommitted h) (IsEdge h)) (sym c.new-in-Rest.ensures) c.in_ok-steps-in-Rest.ensures)
+    ((left_is (goal.at.returns-in_ok-steps-in-Rest c).In-Rest).2.none_keeps, subst (IsPrintedCycle (IsCommitted h) (IsEdge h)) (sym c.new-in-Rest.ensures) c.in_ok-steps-in-Rest.ensures)

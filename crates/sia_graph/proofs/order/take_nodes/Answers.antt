@@ -1,24 +1,20 @@
-use Rattle.std.proofs.Common.{◌≡◌, ◌≢◌, ◌+◌, ◌-◌, ◌*◌, ◌<◌, ◌≤◌, ℕ, [], Bool, true, false, not, cond, inl, inr, Ok, Vec, Global, List, drop, get_or, length, map, replicate, set, ap, refl, sym, subst, ◌∙◌, arith, rules, tests}
-use Rattle.std.specs.Prelude.{◌↔◌, All, Contains}
+use Rattle.std.proofs.Common.{◌≡◌, ◌≢◌, ◌+◌, ◌-◌, ◌*◌, ◌<◌, ◌≤◌, ◌∷◌, ◌++◌, ℕ, [], Bool, true, false, not, cond, inl, inr, Ok, Vec, Global, List, drop, get_or, length, map, replicate, set, ap, sym, subst, ◌∙◌, arith, rules, tests}
+use Rattle.std.specs.Prelude.{◌↔◌, Contains}
 use Rattle.std.specs.Bool.{MatchBool}
 use Rattle.std.specs.List.{AllWithin, HoldsAt, range_with_len}
 use Rattle.std.proofs.lemmas.Bool.{cases_lt, le-ltb, lt-ltb}
 use Rattle.std.proofs.lemmas.Iterator.{YieldsList-from_map, YieldsList-from_slice, cases_from_all, items_from_collect}
 use Rattle.std.proofs.lemmas.Iterator.Consumers.{YieldsList-at}
 use Rattle.std.proofs.lemmas.List.{get_or-drop, get_or-map, get_or-replicate, get_or-set_same, get_or_past, length-drop, length-map, length-replicate, take_all}
-use Rattle.sia_graph.specs.Blocks.{without_blocks}
-use Rattle.sia_graph.specs.Fronts.{left_over}
-use Rattle.sia_graph.specs.Graphs.{IsGraph}
 use Rattle.sia_graph.specs.UnderWay.{IsBehind, IsDone, IsLastFront, IsReadyIn, IsTaking, none_pending, times}
-use Rattle.sia_graph.specs.declared.order.Graph.{Graph}
 use Rattle.sia_graph.specs.declared.order.Taking.{Taking}
 use Rattle.sia_graph.specs.NarrowSteps.{name_of}
 use Rattle.sia_graph.proofs.Orders.DoneNodes.{done_ready, done_under_way}
 use Rattle.sia_graph.proofs.Orders.Mapped.{block_more, member_more}
 use Rattle.sia_graph.proofs.Orders.Pending.{as_taking, first_fewer, not_yet}
-use Rattle.sia_graph.proofs.Orders.StuckNodes.{left_nodes, nodes_below, whole_order}
-use Rattle.sia_graph.proofs.Orders.TakenFronts.{IsFrontOf, fewer_left, front_taken, last_front, no_front, ready_left, ready_within}
-use Rattle.sia_graph.proofs.order.take_nodes.Goals.{After-all, In-Some, In_default, then-taken-floor+in_ok-push-2, else-taken-floor}
+use Rattle.sia_graph.proofs.Orders.StuckNodes.{left_nodes, whole_order}
+use Rattle.sia_graph.proofs.Orders.TakenFronts.{fewer_left, front_taken, last_front, no_front, ready_left, ready_within}
+use Rattle.sia_graph.proofs.order.take_nodes.Goals.{After-all, In-Some, In_default, then-node-floor+in_ok-push, else-node-floor}
 use Rattle.sia_graph.proofs.order.take_nodes.Goals as goal
 
 abbrev many : ℕ → List ℕ → ℕ
@@ -60,22 +56,23 @@ loop-node-2-init c =
       as_taking c.args.graph.now c.in_ok-done.done.items c.loop-node.taking (not_yet c.loop-node.node) none_pending (many c.args.size c.args.txns.now)
           (λ t l. ap (λ b. cond b 0 1) (lt-ltb t c.loop-node.node (let e = is.1 in omega arith))) is.0,
       is.1,
-      subst (λ front. IsFrontOf (many c.args.size c.args.txns.now) c.args.graph.now c.in_ok-done.done.items front) (sym c.in_ok-order.ensures.items)
-          (no_front (many c.args.size c.args.txns.now) c.args.graph.now c.in_ok-done.done.items (is.0.under_way.done_long ∙ is.1) is.2),
+      [],
+      no_front (many c.args.size c.args.txns.now) c.args.graph.now c.in_ok-done.done.items (is.0.under_way.done_long ∙ is.1) is.2,
+      c.in_ok-order.ensures.items,
     )
 
 within : (c : In-Some) → c.in-Some.node < (many c.args.size c.args.txns.now)
 within c =
     let is = c.loop-node-2.invariant in
-    ready_within (many c.args.size c.args.txns.now) c.args.graph.now c.requires.graph c.loop-node-2.done.items c.loop-node-2.taking is.1 is.0 c.loop-node-2.order.items is.2 c.in-Some.node c.in-Some.ensures.member
+    ready_within (many c.args.size c.args.txns.now) c.args.graph.now c.requires.graph c.loop-node-2.done.items c.loop-node-2.taking is.1 is.0 is.2 is.3 c.in-Some.node c.in-Some.ensures.member
 
 left : (c : In-Some) → (get_or c.loop-node-2.taking.counts.items c.in-Some.node 0 ≡ 0) × ¬ IsDone c.loop-node-2.done.items c.in-Some.node
 left c =
     let is = c.loop-node-2.invariant in
-    ready_left (many c.args.size c.args.txns.now) c.args.graph.now c.requires.graph c.loop-node-2.done.items c.loop-node-2.taking is.1 is.0 c.loop-node-2.order.items is.2 c.in-Some.node (within c) c.in-Some.ensures.member
+    ready_left (many c.args.size c.args.txns.now) c.args.graph.now c.requires.graph c.loop-node-2.done.items c.loop-node-2.taking is.1 is.0 is.2 is.3 c.in-Some.node (within c) c.in-Some.ensures.member
 
 pub index_mut-requires : goal.index_mut-requires
-index_mut-requires c = let l = within (goal.at.index_mut-requires c).In-Some in let e = c.loop-node-2.invariant.2.done_long in let ok = c.loop-node-2.done.ok.0 in omega arith
+index_mut-requires c = let l = within (goal.at.index_mut-requires c).In-Some in let e = c.loop-node-2.invariant.3.done_long in let ok = c.loop-node-2.done.ok.0 in omega arith
 
 pub finish-requires-clause-node : goal.finish-requires-clause-node
 finish-requires-clause-node c =
@@ -88,7 +85,7 @@ finish-requires-clause-node c =
 pub finish-requires-clause-done : goal.finish-requires-clause-done
 finish-requires-clause-done c =
     let l = within (goal.at.finish-requires-clause-done c).In-Some in
-    let e = c.loop-node-2.invariant.2.done_long in
+    let e = c.loop-node-2.invariant.3.done_long in
     ap (λ d. get_or d c.in-Some.node false) c.deref-in-Some.ensures.value ∙ get_or-set_same c.loop-node-2.done.items c.in-Some.node true false (omega arith)
 
 pub finish-requires-clause-is : goal.finish-requires-clause-is
@@ -114,11 +111,9 @@ finish-requires-clause-is c =
 pub loop-node-2-smaller : goal.loop-node-2-smaller
 loop-node-2-smaller c =
     let before = (goal.at.loop-node-2-smaller c).In-Some in
-    let n = many c.args.size c.args.txns.now in
-    let order = c.loop-node-2.order.items in
-    let is = c.loop-node-2.invariant in
-    subst (λ l. left_over (range_with_len 0 n) l < left_over (range_with_len 0 n) order) (sym c.in_ok-push.ensures.items)
-    (fewer_left n order c.in-Some.node (within before) (λ s. (left before).1 ((is.2.is_done c.in-Some.node (within before)).1 s)))
+    let l = within before in
+    let e = c.loop-node-2.invariant.3.done_long in
+    fewer_left c.loop-node-2.done.items c.in-Some.node (omega arith) (left before).1
 
 pub loop-node-2-preserved : goal.loop-node-2-preserved
 loop-node-2-preserved c =
@@ -129,19 +124,26 @@ loop-node-2-preserved c =
     let done = c.loop-node-2.done.items in
     let k = c.loop-node-2.taking in
     let t = c.in-Some.node in
+    let name = name_of c.args.size c.args.txns.now in
+    let items = λ (v : Vec ℕ Global). v.items in
     let long = c.in_ok-finish.ensures.long ∙ ap (λ (k : Taking). length k.counts.items) c.in-Some.ensures.same ∙ is.1 in (
       subst (λ m. IsTaking g (set done t true) c.finish.new.self none_pending m) long
           (subst (λ d. IsTaking g d c.finish.new.self none_pending (length c.finish.new.self.counts.items)) c.deref-in-Some.ensures.value c.in_ok-finish.ensures.is),
       long,
-      subst (λ front. IsFrontOf n g (set done t true) front) (sym c.in_ok-push.ensures.items)
-          (front_taken n g c.requires.graph done k is.1 is.0 c.loop-node-2.order.items is.2 t (within before) c.in-Some.ensures.member c.in-Some.ensures.least),
+      is.2 ++ t ∷ [],
+      front_taken n g c.requires.graph done k is.1 is.0 is.2 is.3 t (within before) c.in-Some.ensures.member c.in-Some.ensures.least,
+      elim c.if-node-floor.branch [
+        | then-node-floor+in_ok-push w ↦
+            ap items w.order-is ∙ member_more (2 * c.args.size) name is.2 t c.loop-node-2.order.items is.4 w.if-node-floor.true _ w.in_ok-push.ensures.items
+        | else-node-floor w ↦ ap items w.order-is ∙ block_more (2 * c.args.size) name is.2 t c.loop-node-2.order.items is.4 w.if-node-floor.false
+      ],
     )
 
 -- those that were taken, where none is ready any more
-last : (c : In_default) → IsLastFront (Contains (range_with_len 0 (many c.args.size c.args.txns.now))) c.args.graph.now c.loop-node-2.done.items c.loop-node-2.order.items
+last : (c : In_default) → IsLastFront (Contains (range_with_len 0 (many c.args.size c.args.txns.now))) c.args.graph.now c.loop-node-2.done.items c.loop-node-2.invariant.2
 last c =
     let is = c.loop-node-2.invariant in
-    last_front (many c.args.size c.args.txns.now) c.args.graph.now c.requires.graph c.loop-node-2.done.items c.loop-node-2.taking is.1 is.0 c.loop-node-2.order.items is.2
+    last_front (many c.args.size c.args.txns.now) c.args.graph.now c.requires.graph c.loop-node-2.done.items c.loop-node-2.taking is.1 is.0 is.2 is.3
     c.in_default.ensures
 
 -- whether all are done, or one isn't
@@ -151,57 +153,35 @@ AreAll done r = MatchBool r (AllWithin (λ d. d ≡ true) done 0 (length done)) 
 cases : (c : After-all) → AreAll c.deref-2.result.now c.all.result
 cases c = cases_from_all _ _ _ (λ d. d ≡ true) (λ d. d ≡ false) c.all.ensures.ran (YieldsList-from_slice _ c.iter.ensures.rest) (λ x q k. search (rules, tests)) (λ x q k. search (rules, tests))
 
--- each node is one of those of the graph
-nodes_within : (n : ℕ) (g : Graph) → IsGraph n g → (done : List Bool) (order nodes : List ℕ) → IsLastFront (Contains (range_with_len 0 n)) g done order → nodes ≡ order → All (λ a. a < n) nodes
-nodes_within n g graph done order nodes last is = subst (All (λ a. a < n)) (sym is) (nodes_below n g graph done order last)
-
-pub offset_bounds-txns-taken : goal.offset_bounds-txns-taken
-offset_bounds-txns-taken c =
-    let n = 2 * c.args.size + length c.args.txns.now in
-    let a = nodes_within n c.args.graph.now c.requires.graph c.loop-node-2.done.items c.loop-node-2.order.items c.as_slice-taken-items.result.now (last (goal.at.offset_bounds-txns-taken c).In_default) c.as_slice-taken-items.ensures.value c.loop-taken.taken-index 0 c.loop-taken-test.true in
+pub offset_bounds-txns-node : goal.offset_bounds-txns-node
+offset_bounds-txns-node c =
+    let l = within (goal.at.offset_bounds-txns-node c).In-Some in
     let few = c.requires.few in
-    let f = c.if-taken-floor.true in
+    let f = c.if-node-floor.true in
     omega arith
 
-pub bounds-txns-taken : goal.bounds-txns-taken
-bounds-txns-taken c =
-    let n = 2 * c.args.size + length c.args.txns.now in
-    let a = nodes_within n c.args.graph.now c.requires.graph c.loop-node-2.done.items c.loop-node-2.order.items c.as_slice-taken-items.result.now (last (goal.at.bounds-txns-taken c).In_default) c.as_slice-taken-items.ensures.value c.loop-taken.taken-index 0 c.loop-taken-test.true in
-    let f = c.if-taken-floor.true in
+pub bounds-txns-node : goal.bounds-txns-node
+bounds-txns-node c =
+    let l = within (goal.at.bounds-txns-node c).In-Some in
+    let f = c.if-node-floor.true in
     omega arith
-
-pub loop-taken-init : goal.loop-taken-init
-loop-taken-init c = c.in_ok-names.ensures.items
-
-pub loop-taken-preserved : goal.loop-taken-preserved
-loop-taken-preserved c =
-    let name = name_of c.args.size c.args.txns.now in
-    let items = λ (v : Vec ℕ Global). v.items in
-    let nodes = c.as_slice-taken-items.result.now in
-    let k = c.loop-taken.taken-index in
-    elim c.if-taken-floor.branch [
-      | then-taken-floor+in_ok-push-2 w ↦
-          member_more (2 * c.args.size) name nodes k c.loop-taken-test.true c.loop-taken.names.items c.loop-taken.invariant w.if-taken-floor.true _ refl c.if-taken-floor.names.items
-          (ap items w.names-is ∙ w.in_ok-push-2.ensures.items)
-      | else-taken-floor w ↦ ap items w.names-is ∙ block_more (2 * c.args.size) name nodes k c.loop-taken-test.true c.loop-taken.names.items c.loop-taken.invariant w.if-taken-floor.false
-    ]
 
 pub returns-then-all : goal.returns-then-all
 returns-then-all c =
     let n = 2 * c.args.size + length c.args.txns.now in
-    let order = c.loop-node-2.order.items in
+    let order = c.loop-node-2.invariant.2 in
     let done = c.loop-node-2.done.items in
     let all = subst (AreAll done) c.if-all.true (subst (λ l. AreAll l c.all.result) c.deref-2.ensures.value (cases (goal.at.returns-then-all c).After-all)) in (
       order,
-      whole_order n c.args.graph.now c.requires.graph done order (last (goal.at.returns-then-all c).In_default) (λ t l. all t false (omega arith) (let e = c.loop-node-2.invariant.2.done_long in omega arith)),
-      c.loop-taken.invariant ∙ ap (λ (l : List ℕ). map (name_of c.args.size c.args.txns.now) (without_blocks (2 * c.args.size) l)) (take_all c.loop-taken.taken-index c.as_slice-taken-items.result.now c.loop-taken-test.false ∙ c.as_slice-taken-items.ensures.value),
+      whole_order n c.args.graph.now c.requires.graph done order (last (goal.at.returns-then-all c).In_default) (λ t l. all t false (omega arith) (let e = c.loop-node-2.invariant.3.done_long in omega arith)),
+      c.loop-node-2.invariant.4,
     )
 
 pub returns : goal.returns
 returns c =
     let floor = 2 * c.args.size in
     let done = c.loop-node-2.done.items in
-    let long = c.loop-node-2.invariant.2.done_long in
+    let long = c.loop-node-2.invariant.3.done_long in
     let some = subst (AreAll done) c.if-all.false (subst (λ l. AreAll l c.all.result) c.deref-2.ensures.value (cases (goal.at.returns c).After-all)) in
     let rest = drop floor done in
     let many : length rest ≡ length c.args.txns.now = (let a = length-drop floor done in omega arith) in
@@ -211,7 +191,7 @@ returns c =
     let items : c.in_ok-collect.field-0.items ≡ map not rest =
     items_from_collect {E = Bool} (Ok c.in_ok-collect.field-0) c.in_ok-collect.ensures.ran
     (YieldsList-from_map _ not (YieldsList-at c.map.ensures.source (YieldsList-from_slice rest cut)) c.map.ensures.closure (λ x r q k. search (rules, tests))) in
-    left_nodes c.args.size c.args.txns.now c.args.graph.now c.requires.graph done c.loop-node-2.order.items (last (goal.at.returns c).In_default) c.in_ok-collect.field-0.items
+    left_nodes c.args.size c.args.txns.now c.args.graph.now c.requires.graph done c.loop-node-2.invariant.2 (last (goal.at.returns c).In_default) c.in_ok-collect.field-0.items
     (ap (length {A = Bool}) items ∙ length-map rest not ∙ many)
     (λ i l. ap (λ xs. get_or xs i false) items ∙ get_or-map not rest i false false (omega arith) ∙ ap not (get_or-drop floor done i false))
     (some.0, (let l = some.1 in omega arith), some.2 false)

@@ -1,6 +1,7 @@
-use Rattle.std.proofs.Common.{◌≡◌, ◌+◌, ◌-◌, ◌<◌, ◌≤◌, ℕ, [], Bool, true, false, List, Some, length, get_or, set, slice_get, inl, inr, ◌⊎◌, ap, refl, sym, subst, ◌∙◌, arith}
+use Rattle.std.proofs.Common.{◌≡◌, ◌+◌, ◌-◌, ◌<◌, ◌≤◌, ℕ, [], Bool, true, false, List, Ok, Err, Option, Result, Some, length, get_or, set, slice_get, inl, inr, ◌⊎◌, ap, refl, sym, subst, ◌∙◌, arith}
 use Rattle.std.specs.BinaryHeap.{heap_items}
 use Rattle.std.specs.List.Sorted.{IsStrictlyIncreasing}
+use Rattle.std.specs.Result.{OkIff, result_ok}
 use Rattle.std.proofs.lemmas.Bool.{cases_eq, cases_lt}
 use Rattle.std.proofs.lemmas.List.{get_or-set_same, get_or-set_other, get_or_default, length-set}
 use Rattle.std.proofs.lemmas.Option.{same_Some, slice_get-get_or}
@@ -44,7 +45,7 @@ loop-place-preserved c =
       ],
     )
 
-first_left : (c : Then-place-sources) → IsFirst c.args.done.now c.loop-place.place c.index-place.result.now c.at-sources.result.now
+first_left : (c : Then-place-sources) → IsFirst c.args.done.now c.loop-place.place c.index-2.result.now c.at-sources.result.now
 first_left c = (
   c.loop-place.invariant.0,
   c.if-place-sources.true,
@@ -82,6 +83,11 @@ index_mut-requires-then-place-sources-3 c =
 elsewhere : (P : ℕ → List ℕ → Type 0) (from n : ℕ) (row other : List ℕ) → from ≡ n → row ≡ other → P from row → P n other
 elsewhere P from n row other e f p = subst (λ r. P n r) f (subst (λ k. P k row) e p)
 
+-- the place that is kept
+same_place : {E : Type 0} (r : Result ℕ E) (o : Option ℕ) (x place : ℕ) → OkIff r (place < 4294967296) place → o ≡ result_ok r → o ≡ Some x → x ≡ place
+same_place (Ok y) o x place is ok at = same_Some _ _ (sym at ∙ ok) ∙ is.1
+same_place (Err e) o x place is ok at = cc
+
 pub returns-then-place-sources-clause-is : goal.returns-then-place-sources-clause-is
 returns-then-place-sources-clause-is c pending less waking is fewer =
     let k = c.args.self.now in
@@ -96,16 +102,19 @@ returns-then-place-sources-clause-is c pending less waking is fewer =
     let w = is.under_way in
     let l = w.first_long in
     let passed = w.passed_long in
+    let p = c.in_ok-self.field-0 in
+    let stored = same_place c.try_from.result c.ok.result p c.loop-place.place c.try_from.ensures c.ok.ensures.value c.in_ok-self.ensures.ok_part in
     let f =
-    elsewhere (IsFirst c.args.done.now c.loop-place.place) c.index-place.result.now (get_or k.passed.items node 0) c.at-sources.result.now (get_or c.args.graph.now.sources node [])
-    (c.index-place.ensures ∙ get_or_default k.passed.items node c.index-place.result.now 0 (omega arith)) c.at-sources.ensures (first_left (goal.at.returns-then-place-sources-clause-is c).Then-place-sources) in
+    subst (λ q. IsFirst c.args.done.now q (get_or k.passed.items node 0) (get_or c.args.graph.now.sources node [])) (sym stored)
+    (elsewhere (IsFirst c.args.done.now c.loop-place.place) c.index-2.result.now (get_or k.passed.items node 0) c.at-sources.result.now (get_or c.args.graph.now.sources node [])
+    (c.index-2.ensures ∙ get_or_default k.passed.items node c.index-2.result.now 0 (omega arith)) c.at-sources.ensures (first_left (goal.at.returns-then-place-sources-clause-is c).Then-place-sources)) in
     let row = c.at-sources.result.now in
     let at = get_or row c.loop-place.place 0 in
-    let is_at : at ≡ get_or (get_or c.args.graph.now.sources node []) c.loop-place.place 0 = ap (λ (r : List ℕ). get_or r c.loop-place.place 0) c.at-sources.ensures in
+    let is_at : at ≡ get_or (get_or c.args.graph.now.sources node []) p 0 = ap (λ (r : List ℕ). get_or r c.loop-place.place 0) c.at-sources.ensures ∙ ap (λ q. get_or (get_or c.args.graph.now.sources node []) q 0) (sym stored) in
     let at_below : at < length k.counts.items = sources_within c.args.graph.now (length k.counts.items) node c.requires.graph row c.at-sources.ensures c.loop-place.place 0 c.if-place-sources.true in
     record {
       under_way = under_way_waiting c.args.graph.now c.args.done.now k node below v c.index_mut.result.now old refl pending less waking is fewer (omega arith)
-          c.loop-place.place f.1 f.0 at is_at (λ is. f.2 (subst (IsDone c.args.done.now) is_at is)) f.3 at_below (let m = c.requires.node.1 in omega arith)
+          p f.1 f.0 at is_at (λ is. f.2 (subst (IsDone c.args.done.now) is_at is)) f.3 at_below (let m = c.requires.node.1 in omega arith)
           c.index-then-place-sources.result.now (c.index-then-place-sources.ensures ∙ get_or_default k.first_waiting.items at c.index-then-place-sources.result.now 0 (omega arith));
       ready = ready_held c.args.graph.now c.args.done.now k node below v c.index_mut.result.now old refl pending less waking is fewer;
       before = is.before;
@@ -121,18 +130,22 @@ returns-then-place-sources-clause-others c t s w d =
     let l = now.passed_long in
     let b = c.requires.node.0 in
     let row = get_or c.args.graph.now.sources node [] in
+    let p = c.in_ok-self.field-0 in
+    let stored = same_place c.try_from.result c.ok.result p c.loop-place.place c.try_from.ensures c.ok.ensures.value c.in_ok-self.ensures.ok_part in
     elim (cases_eq t node) [
       | inl e ↦
-          let f = elsewhere (IsFirst c.args.done.now c.loop-place.place) c.index-place.result.now c.index-place.result.now c.at-sources.result.now row refl c.at-sources.ensures (first_left (goal.at.returns-then-place-sources-clause-others c).Then-place-sources) in
-          let at : slice_get row (get_or (set k.passed.items node c.loop-place.place) node 0) ≡ Some s =
-          subst (λ u. slice_get (get_or c.args.graph.now.sources u []) (get_or (set k.passed.items node c.loop-place.place) u 0) ≡ Some s) e w.2 in
-          let same : get_or row c.loop-place.place 0 ≡ s =
+          let f =
+          subst (λ q. IsFirst c.args.done.now q c.index-2.result.now row) (sym stored)
+          (elsewhere (IsFirst c.args.done.now c.loop-place.place) c.index-2.result.now c.index-2.result.now c.at-sources.result.now row refl c.at-sources.ensures (first_left (goal.at.returns-then-place-sources-clause-others c).Then-place-sources)) in
+          let at : slice_get row (get_or (set k.passed.items node p) node 0) ≡ Some s =
+          subst (λ u. slice_get (get_or c.args.graph.now.sources u []) (get_or (set k.passed.items node p) u 0) ≡ Some s) e w.2 in
+          let same : get_or row p 0 ≡ s =
           same_Some _ _
-          (sym (slice_get-get_or row c.loop-place.place 0 f.1) ∙ ap (slice_get row) (sym (get_or-set_same k.passed.items node c.loop-place.place 0 (omega arith))) ∙ at) in
+          (sym (slice_get-get_or row p 0 f.1) ∙ ap (slice_get row) (sym (get_or-set_same k.passed.items node p 0 (omega arith))) ∙ at) in
           absurd (f.2 (subst (IsDone c.args.done.now) (sym same) d))
       | inr n ↦ (
-        others_waited c.args.graph.now k.counts.items k.passed.items (set k.counts.items node v) (set k.passed.items node c.loop-place.place) node (length-set k.counts.items node v)
-            (λ u m. get_or-set_other k.counts.items node u v 0 m) (λ u m. get_or-set_other k.passed.items node u c.loop-place.place 0 m) t s n w,
+        others_waited c.args.graph.now k.counts.items k.passed.items (set k.counts.items node v) (set k.passed.items node p) node (length-set k.counts.items node v)
+            (λ u m. get_or-set_other k.counts.items node u v 0 m) (λ u m. get_or-set_other k.passed.items node u p 0 m) t s n w,
         n,
       )
     ]
@@ -161,9 +174,9 @@ freed c pending less waking is fewer =
     let m = many c.args.graph.now c.args.done.now k node below v c.index_mut.result.now old refl pending less waking is fewer in
     let once = is.before.once node in (
       under_way_free c.args.graph.now c.args.done.now k node below v c.index_mut.result.now old refl pending less waking is fewer (omega arith)
-          (elsewhere (λ from row. (i : ℕ) → from ≤ i → i < length row → IsDone c.args.done.now (get_or row i 0)) c.index-place.result.now (get_or k.passed.items node 0)
+          (elsewhere (λ from row. (i : ℕ) → from ≤ i → i < length row → IsDone c.args.done.now (get_or row i 0)) c.index-2.result.now (get_or k.passed.items node 0)
           c.at-sources.result.now (get_or c.args.graph.now.sources node [])
-          (c.index-place.ensures ∙ get_or_default k.passed.items node c.index-place.result.now 0 (let l = is.under_way.passed_long in omega arith)) c.at-sources.ensures (λ i low below. c.loop-place.invariant.1 i low (let end = c.if-place-sources.false in omega arith))),
+          (c.index-2.ensures ∙ get_or_default k.passed.items node c.index-2.result.now 0 (let l = is.under_way.passed_long in omega arith)) c.at-sources.ensures (λ i low below. c.loop-place.invariant.1 i low (let end = c.if-place-sources.false in omega arith))),
       ready_free c.args.graph.now c.args.done.now k node below v c.index_mut.result.now old refl pending less waking is fewer (omega arith),
       elim (cases_lt 0 (held k.run.items (heap_items k.others) node)) [
         | inl some ↦ absurd (let z = ((is.ready node below).0 (inl (omega arith))).0 in omega arith)
