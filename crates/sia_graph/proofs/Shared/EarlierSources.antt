@@ -1,5 +1,5 @@
 -- What is at hand of those who made, saw or passed over versions, and the edges to a transaction that this tells.
-use Rattle.std.proofs.Common.{◌≡◌, ◌≢◌, ◌⊎◌, inl, inr, ℕ, ◌-◌, ◌<◌, ◌≤◌, Bool, List, min, refl, ap, sym, subst, ◌∙◌, arith}
+use Rattle.std.proofs.Common.{◌≡◌, ◌≢◌, ◌⊎◌, inl, inr, ℕ, ◌<◌, ◌≤◌, Bool, List, min, refl, ap, sym, subst, ◌∙◌, arith}
 use Rattle.std.specs.Prelude.{◌↔◌, ⊤, Contains}
 use Rattle.std.proofs.lemmas.Bool.{cases_eq}
 use Rattle.sia_events.specs.declared.event.Event.{Event}
@@ -13,11 +13,10 @@ use Rattle.sia_index.specs.Info.{IsKeyAt}
 use Rattle.sia_index.specs.Numbers.{IsCommittedAt}
 use Rattle.sia_index.specs.Positions.{AreAllVersions, IsAtPosition}
 use Rattle.sia_index.specs.declared.info.KeyVersion.{KeyVersion}
-use Rattle.sia_parts.specs.Accesses.{AreAccesses, HasMiss, Missed, SawPosition}
+use Rattle.sia_parts.specs.Accesses.{AreAccesses, Missed, SawPosition}
 use Rattle.sia_parts.specs.Entries.{EdgeOfKind}
 use Rattle.sia_parts.specs.Sights.{FromSome}
 use Rattle.sia_parts.specs.declared.accesses.Accesses.{Accesses}
-use Rattle.sia_parts.specs.declared.accesses.RangeMiss.{RangeMiss}
 use Rattle.sia_parts.specs.declared.finding.Kind.{Kind}
 use Rattle.sia_parts.specs.declared.finding.Kind.TheVariants.{Ww, Wr, Rw}
 use Rattle.sia_graph.specs.Passed.{IsSizeFor}
@@ -29,16 +28,6 @@ use Rattle.sia_graph.proofs.Shared.PositionEdges.{made_commits, rw_positions, wr
 use Rattle.sia_graph.proofs.Shared.PositionTwos.{before_below, below_before, none_below}
 use Rattle.sia_parts.proofs.Shared.OneNumber.{one_key_number, one_committed_number as one_number, one_committed as one_txn_at}
 use Rattle.sia_parts.proofs.EdgeRows.PositionOrder.{by_commit as commits_less, one_version as one_at}
-
--- each miss is of keys that blocks are over
-pub miss_within : (h : List Event) (a : Accesses) → AreAccesses h (λ _. ⊤) a → (size : ℕ) → IsSizeFor size h a → (i : ℕ) (miss : RangeMiss) → HasMiss a i miss → (miss.from < miss.to) × (miss.to ≤ size)
-miss_within h a are size (inl all) i miss has =
-    let some = are.some i miss has in
-    let w = are.missed i (miss.to - 1) (miss, has, omega arith, omega arith) in
-    let n = (key_number h all.0 all.1 (miss.to - 1) w.1 w.3).0 in
-    let e = all.2 in
-    (some, omega arith)
-miss_within h a are size (inr none) i miss has = let some = are.some i miss has in absurd (none.1 i miss.from (miss, has, omega arith, some))
 
 -- blocks are over a key, or nobody passed over it
 pub key_within : (h : List Event) (a : Accesses) (size : ℕ) → IsSizeFor size h a → (j k : ℕ) → IsKeyAt h j k → (j < size) ⊎ ((r : ℕ) → ¬ Missed a r j)

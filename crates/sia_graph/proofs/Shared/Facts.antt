@@ -1,9 +1,8 @@
 -- Facts of well-formed histories: when a transaction starts and commits.
-use Rattle.std.proofs.Common.{◌≡◌, ◌⊎◌, inl, inr, ℕ, zero, suc, ◌<◌, ◌≤◌, List, Some, refl, arith}
+use Rattle.std.proofs.Common.{◌≡◌, ◌⊎◌, inl, inr, ℕ, ◌<◌, ◌≤◌, List, refl, arith}
 use Rattle.std.proofs.lemmas.Bool.{cases_lt}
 use Rattle.sia_events.specs.declared.event.Event.{Event}
 use Rattle.sia_events.specs.declared.event.Event.TheVariants.{Write, Commit}
-use Rattle.sia_events.specs.Places.{at_place}
 use Rattle.sia_events.specs.Refusals.{IsWellFormed}
 use Rattle.sia_events.specs.Transactions.{ActsAt, StartsAt, CommitsAt, IsCommitted, Wrote, Sees, CommitsBefore}
 use Rattle.sia_events.proofs.Writing.WellFormed.{one_commit}
@@ -12,11 +11,6 @@ use Rattle.sia_events.proofs.OfLaws.Seen.{actor_is_txn}
 use Rattle.sia_events.proofs.Shared.Starts.{one_event, one_start}
 use Rattle.sia_events.proofs.OfLaws.StartsBelow.{start_below}
 use Rattle.sia_events.proofs.Shared.TransactionDecisions.{committed_or_not, has_start}
-
--- no event stands at place 0
-pub from_one : (h : List Event) (p : ℕ) (e : Event) → at_place h p ≡ Some e → 0 < p
-from_one h zero e at = cc
-from_one h (suc p) e at = omega arith
 
 -- a place holds one commit
 pub same_committer : (h : List Event) (t u c d : ℕ) → c ≡ d → CommitsAt h t c → CommitsAt h u d → t ≡ u

@@ -6,7 +6,6 @@ use Rattle.sia_events.specs.declared.event.Event.{Event}
 use Rattle.sia_events.specs.Lists.{ListsAscending}
 use Rattle.sia_events.specs.Refusals.{IsWellFormed}
 use Rattle.sia_index.specs.declared.info.KeyVersion.{KeyVersion}
-use Rattle.sia_index.specs.Info.{HasKeyAt}
 use Rattle.sia_index.specs.Numbers.{IsCommittedAt}
 use Rattle.sia_index.specs.Positions.{IsAtPosition}
 use Rattle.sia_parts.specs.declared.accesses.Accesses.{Accesses}
@@ -26,10 +25,6 @@ use Rattle.sia_parts.proofs.Shared.OneNumber.{one_committed as one_txn_at}
 pub size_few : (size : ℕ) (h : List Event) (a : Accesses) → IsWellFormed h → IsSizeFor size h a → size ≤ 536870912
 size_few size h a wf (inl some) = let f = few_written h wf some.0 some.1 in let e = some.2 in omega arith
 size_few size h a wf (inr none) = let z = none.0 in omega arith
-
-pub size_has : (size : ℕ) (h : List Event) (a : Accesses) → IsSizeFor size h a → (j : ℕ) → j < size → HasKeyAt h j
-size_has size h a (inl some) j below = (some.0, some.1, (let e = some.2 in omega arith))
-size_has size h a (inr none) j below = absurd (let z = none.0 in omega arith)
 
 module _ (h : List Event) (size b : ℕ) where
   -- the leaf of a key

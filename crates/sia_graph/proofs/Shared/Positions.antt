@@ -1,7 +1,7 @@
 -- Elements of lists by their positions.
 use Rattle.std.proofs.Common.{◌≡◌, ◌≢◌, ◌⊎◌, inl, inr, ℕ, zero, suc, ◌+◌, ◌<◌, true, false, List, [], ◌∷◌, ◌++◌, length, get_or, slice_get, Some, eqb, ap, sym, ◌∙◌, refl, arith}
 use Rattle.std.specs.Prelude.{Contains, AllPairs}
-use Rattle.std.proofs.lemmas.Bool.{or_cases, or_left, or_right, cases_order, cases_Bool, eqb-true, eq-eqb}
+use Rattle.std.proofs.lemmas.Bool.{or_cases, or_left, or_right, cases_order, eqb-true, eq-eqb}
 use Rattle.std.proofs.lemmas.Option.{same_Some, slice_get_within, slice_get-get_or, get_or_from_slice_get}
 use Rattle.sia_graph.specs.Fronts.{stands}
 
@@ -79,9 +79,6 @@ true_stands (x ∷ xs) t e = elim (or_cases (eqb x t) (stands xs t) e) [
 
 pub false_stands : (xs : List ℕ) (t : ℕ) → stands xs t ≡ false → ¬ Stands xs t
 false_stands xs t e s = let p = sym e ∙ stands_true xs t s in cc
-
-pub stands_false : (xs : List ℕ) (t : ℕ) → ¬ Stands xs t → stands xs t ≡ false
-stands_false xs t n = elim (cases_Bool (stands xs t)) [ inl e ↦ absurd (n (true_stands xs t e)) | inr e ↦ e ]
 
 -- one more at the end
 pub stands_more : (xs : List ℕ) (t u : ℕ) → Stands xs u → Stands (xs ++ t ∷ []) u

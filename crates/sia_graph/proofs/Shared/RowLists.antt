@@ -16,9 +16,6 @@ last_more [] xs x = refl
 last_more (ys ∷ []) xs x = refl
 last_more (ys ∷ zs ∷ lists) xs x = ap (λ l. ys ∷ l) (last_more (zs ∷ lists) xs x)
 
-pub some_list : {A : Type 0} (lists : List (List A)) (xs : List A) → 0 < length (lists ++ (xs ∷ []))
-some_list lists xs = let l = length-append lists (xs ∷ []) in omega arith
-
 -- each list of the first n has P with its number
 abbrev pub AreLists : (ℕ → List ℕ → Type 0) → List (List ℕ) → ℕ → Type 0
 AreLists P lists n = (length lists ≡ n) × ((x : ℕ) → x < n → P x (get_or lists x []))

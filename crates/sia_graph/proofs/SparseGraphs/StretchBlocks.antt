@@ -23,13 +23,6 @@ pub record HasBlocksTo (size : ℕ) (stretches : List RangeMiss) (n : ℕ) (old 
   pub keeps : (b : ℕ) → Contains old b → Contains blocks b
   pub within : (b : ℕ) → Contains blocks b → Contains old b ⊎ ((0 < b) × (b < 2 * size))
 
-pub blocks_none : (size : ℕ) (stretches : List RangeMiss) (old : List ℕ) → HasBlocksTo size stretches 0 old old
-blocks_none size stretches old = record {
-  over = λ j l. ((λ u. inl u), (λ e. elim e [ inl u ↦ u | inr f ↦ let l = f.1.1 in absurd (omega arith) ]));
-  keeps = λ b c. c;
-  within = λ b c. inl c;
-}
-
 pub blocks_more : (size : ℕ) (stretches : List RangeMiss) (n : ℕ) (d : RangeMiss) (old blocks new : List ℕ) → n < length stretches → HasBlocksTo size stretches n old blocks
     → ((j : ℕ) → j < size → IsUnderSome size new j ↔ (IsUnderSome size blocks j ⊎ Holds (get_or stretches n d) j)) → ((b : ℕ) → Contains blocks b → Contains new b)
     → ((b : ℕ) → Contains new b → Contains blocks b ⊎ ((0 < b) × (b < 2 * size))) → HasBlocksTo size stretches (n + 1) old new
