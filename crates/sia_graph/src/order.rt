@@ -72,6 +72,7 @@ impl Taking {
     }
 
     /// One less holds the node back. Once its sources alone do it passes those that are done, and waits or is ready.
+    #[inline(always)]
     fn release(&mut self, graph: &Graph, done: &[bool], node: usize) -> Result<(), NoMemory>
         requires graph { IsGraph (length self.old.counts.items) graph.now }
         requires node { (node < length self.old.counts.items) × (length self.old.counts.items < 4294967295) }
