@@ -79,6 +79,7 @@ impl Passed {
     }
 
     /// Goes over to another transaction.
+    #[inline(always)]
     pub(crate) fn fill(&mut self, evidence: &Evidence, txn: u32) -> Result<(), NoMemory>
         requires evidence { IsEvidence evidence.now }
         requires txn { (t : ℕ) × IsCommittedAt evidence.now.index.now txn t }

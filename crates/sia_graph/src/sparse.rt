@@ -19,6 +19,7 @@ use std::alloc::Global;
 
 /// Adds blocks that are over the keys of the stretches, and over no others of `size` keys: for each stretch at most two of each
 /// height.
+#[inline(always)]
 pub(crate) fn put_all_blocks(
     size: u32,
     stretches: &[RangeMiss],
