@@ -3,7 +3,6 @@ ghost use Rattle.std.specs.Prelude.{◌≡◌, ◌+◌, ◌++◌, ◌≤◌, ℕ
 ghost use Rattle.std.proofs.Common.{ap, flat_map, le_refl};
 ghost use Rattle.std.proofs.lemmas.List.{drop_all};
 ghost use Rattle.sia_parts.specs.EdgeRows.{row_bound};
-ghost use Rattle.sia_parts.specs.Entries.{kind_number};
 ghost use Rattle.si_audit.specs.EdgeLines.{AreEdgeLines, AreReady, AreLinesFrom, row_line, row_text};
 ghost use Rattle.si_audit.specs.Giving.{IsTextOf};
 
@@ -13,7 +12,7 @@ use crate::spelled::Spelled;
 use crate::told::Told;
 use sia_events::{NoMemory, TxnId};
 use sia_index::ordering::Sorter;
-use sia_parts::{EdgeTo, Edges, Kind};
+use sia_parts::{EdgeTo, Edges};
 use std::alloc::Global;
 
 /// What the lines of edges are made from.
@@ -82,22 +81,12 @@ impl Told for EdgeLines<'_> {
         let mut row = row;
         'putting: while row < rows.len() && end + ROOM <= bytes.len() {
             let to = &rows[row];
-            end = put(&heads, number_of(to.kind), bytes, end);
+            end = put(&heads, to.kind as u32, bytes, end);
             end = put(txns, to.target, bytes, end);
             end = put(keys, to.key, bytes, end);
             row += 1;
         }
         sheet.end = end;
         row
-    }
-}
-
-fn number_of(kind: Kind) -> u32
-    ensures { result ≡ kind_number kind }
-{
-    match kind {
-        Kind::Ww => 0,
-        Kind::Wr => 1,
-        Kind::Rw => 2,
     }
 }

@@ -3,7 +3,6 @@ ghost use Rattle.std.specs.Prelude.{◌≡◌, ◌<◌, ◌+◌, ◌++◌, ◌�
 ghost use Rattle.std.proofs.Common.{ap, le_refl};
 ghost use Rattle.std.proofs.lemmas.List.{drop_all};
 ghost use Rattle.sia_graph.specs.Found.{most_found};
-ghost use Rattle.sia_graph.specs.Neighbours.{role_number};
 ghost use Rattle.si_audit.specs.Giving.{IsTextOf};
 ghost use Rattle.si_audit.specs.PivotLines.{ArePivotLines, ArePivotsReady, IsLineOf, end_number, lead_number, rest_of, role_before, pivot_text};
 
@@ -12,7 +11,7 @@ use crate::sheet::{ROOM, Sheet, Word, put};
 use crate::spelled::Spelled;
 use crate::told::Told;
 use sia_events::{NoMemory, TxnId};
-use sia_graph::{Evidence, Neighbour, Neighbours, Role};
+use sia_graph::{Evidence, Neighbour, Neighbours};
 use sia_index::ordering::Sorter;
 use std::alloc::Global;
 
@@ -111,11 +110,11 @@ fn lead(rows: &[Neighbour], row: usize) -> u32
     ensures { (d : Neighbour) → result ≡ lead_number (role_before rows.now row)
         (slice_index_or rows.now row d).role }
 {
-    let role = number_of(rows[row].role);
+    let role = rows[row].role as u32;
     if row == 0 {
         return role;
     }
-    if number_of(rows[row - 1].role) == role {
+    if rows[row - 1].role as u32 == role {
         return NONE;
     }
     role
@@ -126,14 +125,4 @@ fn tail(rows: &[Neighbour], row: usize) -> u32
     ensures { result ≡ end_number (drop row rows.now) }
 {
     if row < rows.len() { NONE } else { END }
-}
-
-fn number_of(role: Role) -> u32
-    ensures { result ≡ role_number role }
-{
-    match role {
-        Role::In => 0,
-        Role::Out => 1,
-        Role::First => 2,
-    }
 }

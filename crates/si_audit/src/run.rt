@@ -3,11 +3,11 @@ ghost use Rattle.std.specs.Prelude.{◌≡◌, ◌≢◌, ◌↔◌, ◌+◌, �
 ghost use Rattle.std.specs.Io.KnownBytes.{Appends, Keeps};
 ghost use Rattle.si_audit.specs.Report.{IsReport};
 ghost use Rattle.si_audit.specs.Outcomes.{IsOutcome, status_of};
-ghost use Rattle.si_audit.specs.Engine.{IsFed};
+ghost use Rattle.si_audit.specs.Engine.{HasText, IsFed};
 ghost use Rattle.si_audit.specs.Left.{IsYet};
 ghost use Rattle.si_audit.specs.declared.run.RunFault.TheVariants.{NoMemory as no_memory};
 
-use crate::answer::Report;
+use crate::answer::{Answer, Report};
 use crate::devices::{Failed, Sink, Source};
 use crate::engine::{Auditor, Outcome};
 use crate::options::Options;
@@ -81,14 +81,7 @@ pub fn run<T: Threads + Wait + Sync, R: Source, W: Sink>(
 {
     let auditor = read_text(alloc, reader, o)?;
     let audited = auditor.finish(rt, alloc)?;
-    let mut report = audited.report(alloc)?;
-    let Ok(mut buffer) = Vec::with_capacity(alloc, PIECE) else {
-        return Err(RunFault::NoMemory);
-    };
-    match write_whole(writer, &mut report, &mut buffer) {
-        Ok(()) => Ok(audited.outcome),
-        Err(Failed) => Err(RunFault::Write),
-    }
+    write_report(alloc, writer, &audited)
 }
 
 /// The program's status: 0 for a history that meets the level, 1 for one that falls short of it, 3 for a refused text and 4 for a fault.
@@ -133,6 +126,32 @@ fn read_text<'a, R: Source>(
     Ok(auditor)
 }
 
+/// Writes the report of what a text came to, and answers how its run ends. Where memory is refused nothing is written.
+fn write_report<W: Sink>(alloc: Global, writer: &mut W, a: &Answer) -> Result<Outcome, RunFault>
+    requires { IsFalse (W.has_failed writer.old) }
+    ensures outcome { IfOk result (λ outcome. outcome ≡ a.now.outcome) }
+    ensures flushed { OnOk result (IsTrue (W.is_flushed writer.new)) }
+    ensures read { result ≢ Err RunFault.Read }
+    ensures write { (result ≡ Err RunFault.Write) ↔ IsTrue (W.has_failed writer.new) }
+    ensures nothing { IfErr result (λ e. e ≢ RunFault.Write
+        → Keeps (W.taken writer.old) (W.taken writer.new)) }
+    ensures front { result ≡ Err RunFault.Write → (bytes : List ℕ) → HasText a.now bytes
+        → (front : List ℕ) × (rest : List ℕ) × (bytes ≡ front ++ rest)
+        × Appends (W.taken writer.old) (W.taken writer.new) front }
+    ensures whole { result ≢ Err RunFault.NoMemory → IsFalse (W.has_refused writer.new)
+        → (bytes : List ℕ) → HasText a.now bytes
+        → Appends (W.taken writer.old) (W.taken writer.new) bytes }
+{
+    let Ok(mut buffer) = Vec::with_capacity(alloc, PIECE) else {
+        return Err(RunFault::NoMemory);
+    };
+    let written = write_whole(writer, &mut a.report(alloc)?, &mut buffer);
+    match written {
+        Ok(()) => Ok(a.outcome),
+        Err(Failed) => Err(RunFault::Write),
+    }
+}
+
 fn write_bytes<W: Sink>(writer: &mut W, bytes: &[u8]) -> Result<(), Failed>
     requires { IsFalse (W.has_failed writer.old) }
     ensures ok { OnOk result (Appends (W.taken writer.old) (W.taken writer.new) bytes.now) }
@@ -160,8 +179,6 @@ fn write_whole<W: Sink>(
 ) -> Result<(), Failed>
     requires sound { IsFalse (W.has_failed writer.old) }
     requires room { 0 < vec_capacity buffer.old }
-    ensures ok { OnOk result ((bytes : List ℕ) → IsYet report.old bytes
-        → Appends (W.taken writer.old) (W.taken writer.new) bytes) }
     ensures front { OnErr result ((bytes : List ℕ) → IsYet report.old bytes
         → (front : List ℕ) × (rest : List ℕ) × (bytes ≡ front ++ rest)
         × Appends (W.taken writer.old) (W.taken writer.new) front) }

@@ -1,5 +1,5 @@
 -- A piece more was written, or a front of it.
-use Rattle.std.proofs.Common.{◌≡◌, List, ℕ, [], ◌++◌, Option, Result, Ok, Err, OnOk, OnErr, append-nil, refl, ap, sym, subst, ◌∙◌, append_assoc, rules}
+use Rattle.std.proofs.Common.{◌≡◌, List, ℕ, [], ◌++◌, Option, Result, Ok, Err, OnErr, append-nil, refl, ap, sym, subst, ◌∙◌, append_assoc, rules}
 use Rattle.std.specs.Io.KnownBytes.{Appends, Keeps}
 use Rattle.std.proofs.KnownBytes.{Appends-kept, Appends-trans}
 use Rattle.si_audit.proofs.run.write_whole.Goals as goal
@@ -9,18 +9,9 @@ on_err : {A E : Type 0} (P : Type 0) (r : Result A E) → P → OnErr r P
 on_err P (Ok x) p = tt
 on_err P (Err e) p = p
 
-on_ok : {A E : Type 0} (P : Type 0) (r : Result A E) → P → OnOk r P
-on_ok P (Ok x) p = p
-on_ok P (Err e) p = tt
-
 -- what was written is all, where nothing is left
 all_written : (a b c : Option (List ℕ)) (bytes front rest : List ℕ) → bytes ≡ front ++ rest → rest ≡ [] → Appends a b front → Keeps b c → Appends a c bytes
 all_written a b c bytes front rest split none wrote kept = subst (Appends a c) (sym (split ∙ ap (λ (xs : List ℕ). front ++ xs) none ∙ append-nil front)) (Appends-kept a b c front wrote kept)
-
-pub returns-clause-ok : goal.returns-clause-ok
-returns-clause-ok g c = on_ok _ c.flush.result (λ bytes yet.
-    let before = c.giving.invariant.written bytes yet in
-    all_written _ _ _ bytes before.0 before.1 before.2 ((c.giving-test.ensures.end refl).0 before.1 before.3) before.4 c.flush.ensures.bytes)
 
 pub returns-clause-front : goal.returns-clause-front
 returns-clause-front g c = on_err _ c.flush.result (λ bytes yet.

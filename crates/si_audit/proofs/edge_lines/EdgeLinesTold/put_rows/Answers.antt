@@ -1,15 +1,22 @@
 -- The first words fit a word, and each row puts its line.
-use Rattle.std.proofs.Common.{◌≡◌, ◌++◌, ◌+◌, ◌<◌, ◌≤◌, ◌^◌, List, [], ◌∷◌, get_or, length, take, ap, subst, ◌∙◌, arith, rules}
+use denote.Enum.Declared.{tag_of}
+use Rattle.std.proofs.Common.{◌≡◌, ◌++◌, ◌+◌, ◌<◌, ◌≤◌, ◌^◌, List, [], ◌∷◌, get_or, length, take, refl, ap, subst, ◌∙◌, arith, rules}
 use Rattle.std.specs.Prelude.{slice_index}
+use Rattle.sia_parts.specs.contracts.finding.Kind.{the_type}
 use Rattle.sia_parts.specs.declared.finding.Kind.{Kind}
 use Rattle.sia_parts.specs.declared.edges.EdgeTo.{EdgeTo}
-use Rattle.sia_parts.specs.declared.finding.Kind.TheVariants.{Ww}
+use Rattle.sia_parts.specs.declared.finding.Kind.TheVariants.{Rw, Wr, Ww}
 use Rattle.sia_parts.specs.Entries.{kind_number}
 use Rattle.si_audit.specs.declared.sheet.Word.{Word}
 use Rattle.si_audit.specs.EdgeLines.{edge_head}
 use Rattle.si_audit.specs.Sheet.{word_at}
 use Rattle.si_audit.proofs.OfReport.RowLines.{heads_are, numeral_short, row_put}
 use Rattle.si_audit.proofs.edge_lines.EdgeLinesTold.put_rows.Goals as goal
+
+numbered : (kind : Kind) → tag_of the_type kind ≡ kind_number kind
+numbered Ww = refl
+numbered Wr = refl
+numbered Rw = refl
 
 pub of-head-requires : goal.of-head-requires
 of-head-requires c = let small : c.from-source.result < 2 ^ 32 = search rules in omega (arith, numeral_short 10 c.from-source.result (omega arith) (omega arith) (omega arith))
@@ -51,7 +58,7 @@ putting-preserved c =
     let low = inv.low in
     let from = inv.from in
     let (piece, bytes, lines) = row_put e.spelled.now heads (slice_index e.txns.now c.args.number) head c.args.rows.now c.putting.row none inside _ inv.piece _ _ _ _ _ inv.bytes inv.lines
-    (c.put-end.ensures.bytes ∙ ap (λ n. take c.putting.end c.putting.bytes ++ word_at heads n) c.number_of.ensures)
+    (c.put-end.ensures.bytes ∙ ap (λ n. take c.putting.end c.putting.bytes ++ word_at heads n) (numbered row.kind))
     (c.put-end-in-putting.ensures.bytes ∙ ap (λ (words : List Word). take c.put-end.result c.put-end.new.bytes ++ word_at words row.target) c.deref.ensures.value)
     (c.put-end-in-putting-2.ensures.bytes ∙ ap (λ (words : List Word). take c.put-end-in-putting.result c.put-end-in-putting.new.bytes ++ word_at words row.key) c.deref-2.ensures.value) in record {
       piece = piece;
