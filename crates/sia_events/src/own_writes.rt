@@ -85,9 +85,8 @@ impl OwnWrites {
     {
         let Writer { newest, count } = self.writers.get(txn as usize).copied()?;
         if count > FEW {
-            return self
-                .table
-                .find(rows, u64::from(txn) * 4_294_967_296 + u64::from(key));
+            let code = u64::from(txn) * 4_294_967_296 + u64::from(key);
+            return self.table.find(rows, code);
         }
         let mut at = newest as usize;
         while at > 0 {
