@@ -23,7 +23,7 @@ pub(crate) enum Token {
 }
 
 /// What follows a pair, whether that is a comma, and the number of the key that may well be listed next.
-type AfterPair<'a> = (&'a [u8], bool, u32);
+type Rest<'a> = (&'a [u8], bool, u32);
 
 /// What the last range read listed, and by the numbers of keys how they were spelled.
 #[derive(Drop)]
@@ -45,11 +45,7 @@ impl Listing {
 
     /// Takes in a pair, where it is spelled as the key of the number was the last time.
     #[inline(always)]
-    fn take_again<'a>(
-        &mut self,
-        number: u32,
-        text: &'a [u8],
-    ) -> Result<Option<AfterPair<'a>>, Refusal>
+    fn take_again<'a>(&mut self, number: u32, text: &'a [u8]) -> Result<Option<Rest<'a>>, Refusal>
         ensures takes { IfOk result (λ taken. MatchOption taken (listed self.new ≡ listed self.old)
             (λ x. TakesPair (listed self.old) (listed self.new) text.now x.0.now x.1)) }
         ensures fails { IfErr result (λ fault. Fails fault (pair_at text.now)) }
@@ -66,12 +62,7 @@ impl Listing {
 
     /// Takes in any pair.
     #[inline(never)]
-    fn take<'a>(
-        &mut self,
-        draft: &Draft,
-        guess: u32,
-        text: &'a [u8],
-    ) -> Result<AfterPair<'a>, Refusal>
+    fn take<'a>(&mut self, draft: &Draft, guess: u32, text: &'a [u8]) -> Result<Rest<'a>, Refusal>
         ensures takes { IfOk result (λ x. TakesPair (listed self.old) (listed self.new) text.now x.0.now x.1) }
         ensures fails { IfErr result (λ fault. Fails fault (pair_at text.now)) }
     {
