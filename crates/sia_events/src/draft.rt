@@ -1,5 +1,5 @@
 //! A log as it is made, event by event.
-ghost use Rattle.std.specs.Prelude.{◌≡◌, ◌≢◌, ◌+◌, ◌^◌, ◌≤◌, ◌<◌, ◌++◌, ◌∷◌, [], ℕ, Some, true, false, length, not, nat_lt, slice_get, IfOk, IfErr, IfSome, IfNone, MatchOption, OnOk};
+ghost use Rattle.std.specs.Prelude.{◌≡◌, ◌≢◌, ◌+◌, ◌^◌, ◌≤◌, ◌<◌, ◌++◌, ◌∷◌, [], ℕ, Some, true, false, length, not, nat_lt, slice_get, IfOk, IfErr, IfSome, IfNone, MatchOption, OnOk, IsOk};
 ghost use Rattle.std.specs.List.{list_any};
 ghost use Rattle.sia_events.specs.declared.event.Event.TheVariants as an_event;
 ghost use Rattle.sia_events.specs.Drafts.{AreFound, Knows, CanTake, SameButTxns, SameButWrites, IsNew, new_txn, Acts, HasKey, HasPair, HasWrite, IsReadRow, IsWriteOr, Lists, ListsOne, StopsListing, StopsAtPair, StopsActing, Takes, mentioned};
@@ -57,24 +57,26 @@ fn is_good_list(lo: Key, hi: Key, listed: &[Mention]) -> bool
 }
 
 impl Draft {
-    pub(crate) fn new(alloc: Global) -> Self
-        ensures none { events_of result.tables ≡ [] }
-        ensures knows { Knows result }
+    /// No events, and room for so many rows of each kind, but for twelve times as many pairs. No room takes no memory.
+    pub(crate) fn new(alloc: Global, rows: usize) -> Result<Self, AllocError>
+        ensures none { IfOk result (λ d. events_of d.tables ≡ []) }
+        ensures knows { IfOk result (λ d. Knows d) }
+        ensures no_room { rows ≡ 0 → IsOk result }
     {
-        Draft {
+        Ok(Draft {
             tables: Tables {
-                txns: Vec::new(alloc),
-                keys: Vec::new(alloc),
-                writes: Vec::new(alloc),
-                ranges: Vec::new(alloc),
-                pairs: Vec::new(alloc),
-                events: Vec::new(alloc),
+                txns: Vec::with_capacity(alloc, rows)?,
+                keys: Vec::with_capacity(alloc, rows)?,
+                writes: Vec::with_capacity(alloc, rows)?,
+                ranges: Vec::with_capacity(alloc, rows)?,
+                pairs: Vec::with_capacity(alloc, rows.saturating_mul(12))?,
+                events: Vec::with_capacity(alloc, rows)?,
             },
             txns: Finder::new(alloc, IN_ORDER),
             keys: Finder::new(alloc, SPREAD),
-            writes: OwnWrites::new(alloc),
-            last_seen: Vec::new(alloc),
-        }
+            writes: OwnWrites::new(alloc, rows)?,
+            last_seen: Vec::with_capacity(alloc, rows)?,
+        })
     }
 
     /// How many events there are.

@@ -14,11 +14,12 @@ use crate::draft::Draft;
 use crate::fault::{Reason, Refusal};
 use crate::limits::{Limits, MAX_EVENTS};
 use crate::token::{Listing, Token, event_of};
-use std::alloc::Global;
+use std::alloc::{AllocError, Global};
 use std::simd::prelude::*;
 
 #[derive(Drop)]
 pub(crate) struct Judge {
+    alloc: Global,
     pub(crate) draft: Draft,
     listing: Listing,
 }
@@ -29,9 +30,25 @@ impl Judge {
         ensures knows { Knows result.draft }
     {
         Judge {
-            draft: Draft::new(alloc),
+            alloc,
+            draft: Draft::new(alloc, 0).unwrap(),
             listing: Listing::new(alloc),
         }
+    }
+
+    /// Makes room for as many events as the standard limits allow, so that no table moves as it grows, where there are none yet.
+    fn make_room(&mut self, most: u32) -> Result<(), AllocError>
+        requires { Knows self.old.draft }
+        ensures same { OnOk result (events_of self.new.draft.tables
+            ≡ events_of self.old.draft.tables) }
+        ensures knows { OnOk result (Knows self.new.draft) }
+    {
+        if self.draft.tables.events.is_empty() {
+            // Below the size of a block that was given back, malloc keeps for later tables what is freed. The pairs take more.
+            let _ = Vec::<u8>::with_capacity(self.alloc, 4_500_000)?;
+            self.draft = Draft::new(self.alloc, most.min(Limits::standard().events()) as usize)?;
+        }
+        Ok(())
     }
 
     /// Takes the event of the next token. After `NoMemory` the tables may lack it, or have it without the events.
@@ -88,6 +105,7 @@ impl Judge {
         if token.is_empty() {
             return Ok(());
         }
+        self.make_room(limits.events())?;
         self.take(limits, token)
     }
 

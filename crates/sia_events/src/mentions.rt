@@ -30,7 +30,6 @@ pub(crate) struct SpellingRow {
 }
 
 /// How many of the first bytes are the same.
-#[inline(always)]
 fn same_len(text: &[u8], bytes: &[u8; BLOCK]) -> u32
     requires { 16 ≤ length text.now }
     ensures same { (k : ℕ) → k < result → slice_index text.now k ≡ slice_index bytes.now k }
@@ -62,7 +61,6 @@ impl Spelling {
     }
 
     /// Whether the text begins with the spelling.
-    #[inline(always)]
     fn is_ahead(&self, text: &[u8]) -> bool
         requires { self.now.len < length text.now }
         ensures few { result ≡ true → self.now.len ≤ 16 }

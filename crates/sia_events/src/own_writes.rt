@@ -1,5 +1,5 @@
 //! The writes of each transaction, found by their keys.
-ghost use Rattle.std.specs.Prelude.{◌≡◌, ◌+◌, ◌*◌, ◌^◌, ◌<◌, ◌≤◌, ◌++◌, ◌∷◌, [], ℕ, List, Some, length, map, slice_get, IfSome, IfNone, OnOk};
+ghost use Rattle.std.specs.Prelude.{◌≡◌, ◌+◌, ◌*◌, ◌^◌, ◌<◌, ◌≤◌, ◌++◌, ◌∷◌, [], ℕ, List, Some, length, map, slice_get, IfOk, IfSome, IfNone, IsOk, OnOk};
 ghost use Rattle.sia_events.specs.declared.log.WriteRow.{WriteRow as AWriteRow};
 ghost use Rattle.sia_events.specs.OwnWrites.{Tracks, IsNoneOf, no_writes, new_write, write_code};
 
@@ -30,15 +30,17 @@ pub(crate) struct OwnWrites {
 }
 
 impl OwnWrites {
-    pub(crate) fn new(alloc: Global) -> Self
-        ensures { Tracks result [] }
+    /// No writes, and room for so many transactions and so many writes.
+    pub(crate) fn new(alloc: Global, rows: usize) -> Result<Self, AllocError>
+        ensures none { IfOk result (λ own. Tracks own []) }
+        ensures no_room { rows ≡ 0 → IsOk result }
     {
-        OwnWrites {
-            writers: Vec::new(alloc),
-            before: Vec::new(alloc),
+        Ok(OwnWrites {
+            writers: Vec::with_capacity(alloc, rows)?,
+            before: Vec::with_capacity(alloc, rows)?,
             table: Finder::new(alloc, SPREAD),
             in_table: 0,
-        }
+        })
     }
 
     /// Makes place for one more transaction.

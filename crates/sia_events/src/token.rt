@@ -44,7 +44,6 @@ impl Listing {
     }
 
     /// Takes in a pair, where it is spelled as the key of the number was the last time.
-    #[inline(always)]
     fn take_again<'a>(&mut self, number: u32, text: &'a [u8]) -> Result<Option<Rest<'a>>, Refusal>
         ensures takes { IfOk result (λ taken. MatchOption taken (listed self.new ≡ listed self.old)
             (λ x. TakesPair (listed self.old) (listed self.new) text.now x.0.now x.1)) }

@@ -1,6 +1,6 @@
 -- A text that comes in pieces: what one piece adds to the events, and where it stops them.
 use Rattle.std.proofs.Common.{◌≡◌, ◌≢◌, inl, inr, ℕ, true, false, List, [], ◌∷◌, ◌++◌, length, All, Result, Ok, Err, refl, ap, sym, subst, ◌∙◌, append_assoc}
-use Rattle.std.specs.Prelude.{IfErr}
+use Rattle.std.specs.Prelude.{IfErr, OnOk}
 use Rattle.std.proofs.lemmas.List.{append-nil}
 use Rattle.std.proofs.lemmas.List.Elements.{recursion_from_All, All-from_recursion, All-nil}
 use Rattle.sia_events.specs.Limits.{Limits}
@@ -26,6 +26,12 @@ pub halts_first : (limits : Limits) {X : Type 0} (result : Result X Refusal) (ev
 halts_first limits (Ok x) events all token some fails kept = tt
 halts_first limits (Err refusals.NoMemory) events all token some fails kept = tt
 halts_first limits (Err (refusals.Bad r)) events all token some fails kept = subst (λ ts. StopsAt limits events ts all r) (sym (one_token token some)) (StopsAt-first limits events all token r kept fails)
+
+-- the event of a token that is taken is judged
+pub taken_first : (limits : Limits) {X : Type 0} (result : Result X Refusal) (events all : List Event) (token : List ℕ) → length token ≢ 0 → OnOk result ((e : Event) × (judged limits events token ≡ Ok e) × (all ≡ events ++ e ∷ [])) → OnOk result (JudgedAll limits events (as_token token) all)
+unfolding JudgedAll
+taken_first limits (Err fault) events all token some taken = tt
+taken_first limits (Ok x) events all token some (e, is, more) = subst (λ ts. JudgedAll limits events ts all) (sym (one_token token some)) (e, is, sym more)
 
 -- so it does in a text of which the tokens before it are judged
 pub halts_in : (limits : Limits) (fault : Refusal) (events middle all : List Event) (text closed token after : List ℕ) (s : ℕ) → text ≡ closed ++ (token ++ s ∷ after) → IsClosed closed → HasNoSeparator token → is_separator s ≡ true

@@ -2,5 +2,5 @@ use Rattle.std.proofs.Common.{refl}
 use Rattle.sia_events.proofs.LogRows.OwnWrites.{none_tracked}
 use Rattle.sia_events.proofs.own_writes.OwnWrites.new.Goals as goal
 
-pub returns : goal.returns
-returns c = none_tracked _ c.new.ensures.items c.new-2.ensures.items refl
+pub returns-clause-none : goal.returns-clause-none
+returns-clause-none c = none_tracked _ c.in_ok-with_capacity.ensures.items c.in_ok-with_capacity-2.ensures.items refl
