@@ -2,19 +2,18 @@
 use Rattle.std.specs.Prelude.{◌≡◌, ◌<◌, ◌≤◌, ◌+◌, ℕ, Option, Some, None, MatchOption, List, [], length, slice_get, slice_index, slice_index_or}
 use Rattle.sia_events.specs.declared.event.Event.{Event}
 use Rattle.sia_events.specs.Lists.{ListsAscending}
-use Rattle.sia_events.specs.Numbering.{txns_of, keys_of}
+use Rattle.sia_events.specs.Numbering.{Ends, txns_of, keys_of}
 use Rattle.sia_events.specs.Refusals.{IsWellFormed}
-use Rattle.sia_events.specs.Transactions.{HasEvent, IsCommitted}
-use Rattle.sia_index.specs.Info.{IsInfo}
+use Rattle.sia_events.specs.Transactions.{HasEvent, IsCommitted, StartsAt}
 use Rattle.sia_index.specs.Lifetimes.{AreLifetimes}
 use Rattle.sia_index.specs.Lists.{joined}
 use Rattle.sia_index.specs.Minima.{AreMinima}
 use Rattle.sia_index.specs.Rows.{AreWritesOf, IsColumn, IsWritten}
 use Rattle.sia_index.specs.VersionRows.{AreFirsts, AreRowsByPosition, AreWritesAt, commit_behind, made_row}
 use Rattle.sia_index.specs.declared.versions.VersionRow.{VersionRow}
-use Rattle.sia_index.specs.declared.info.TxnInfo.{TxnInfo}
 use Rattle.sia_index.specs.declared.names.Keys.{Keys}
 use Rattle.sia_index.specs.declared.txns.Txns.{Txns}
+use Rattle.sia_index.specs.declared.txns.TxnSpan.{TxnSpan}
 use Rattle.sia_index.specs.declared.versions.Versions.{Versions}
 use Rattle.sia_index.specs.declared.txns.Writes.{Writes}
 
@@ -32,10 +31,14 @@ pub record AreNumbers (K : ℕ → Type 0) (names listed : List ℕ) (numbers : 
   pub few : length listed ≤ length names
   pub each : (q : ℕ) → q < length names → MatchOption (slice_index_or numbers q None) (¬ K (slice_index names q)) (λ i. (i < length listed) × (slice_index listed i ≡ slice_index names q))
 
--- what is known of each transaction stands at its number in the log
-pub record AreInfos (h : List Event) (infos : List TxnInfo) : Type 0 where
-  pub count : length infos ≡ length (txns_of h)
-  pub right : (i : ℕ) (d : TxnInfo) → i < length (txns_of h) → IsInfo h (slice_index (txns_of h) i) (slice_index_or infos i d)
+-- where t starts, and how it ended
+abbrev pub IsSpan : List Event → ℕ → TxnSpan → Type 0
+IsSpan h t span = StartsAt h t span.start × Ends h t span.end
+
+-- the span of each transaction stands at its number in the log
+pub record AreSpans (h : List Event) (spans : List TxnSpan) : Type 0 where
+  pub count : length spans ≡ length (txns_of h)
+  pub right : (i : ℕ) (d : TxnSpan) → i < length (txns_of h) → IsSpan h (slice_index (txns_of h) i) (slice_index_or spans i d)
 
 -- the number in a log of each of the listed names stands at its place
 abbrev pub AreNumbersOf : List ℕ → List ℕ → List ℕ → Type 0
@@ -44,7 +47,7 @@ AreNumbersOf names listed order = (length order ≡ length listed) × ((i d : �
 pub record AreTxns (h : List Event) (t : Txns) : Type 0 where
   pub all : AreNumbers (HasEvent h) (txns_of h) t.ids.items t.numbers.items
   pub order : AreNumbersOf (txns_of h) t.ids.items t.order.items
-  pub infos : AreInfos h t.infos.items
+  pub spans : AreSpans h t.spans.items
   pub committed : AreNumbers (IsCommitted h) (txns_of h) t.committed.items t.committed_numbers.items
   pub lifetimes : AreLifetimes h t.committed.items t.lifetimes.items
 

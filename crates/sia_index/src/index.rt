@@ -22,7 +22,7 @@ use crate::minima::next_below;
 use crate::names::Keys;
 use crate::txns::{Txns, WriteRow, Writes};
 use crate::versions::Versions;
-use sia_events::{Key, Log, TxnId, Version};
+use sia_events::{Key, Log, TxnEnd, TxnId, Version};
 use std::marker::Model;
 use std::snapshot::Snapshot;
 
@@ -78,7 +78,14 @@ impl Index {
         requires { HasTxnAt self.now i }
         ensures { (t : ℕ) → IsTxnAt self.now i t → IsInfo self.now t result }
     {
-        self.txns.infos[self.txns.order[i] as usize]
+        let span = self.txns.spans[self.txns.order[i] as usize];
+        let start = span.start;
+        let (ended, fate) = match span.end {
+            TxnEnd::Open => (None, Fate::Unfinished),
+            TxnEnd::Committed(place) => (Some(place), Fate::Committed),
+            TxnEnd::Aborted(place) => (Some(place), Fate::Aborted),
+        };
+        TxnInfo { start, ended, fate }
     }
 
     /// What is known of a transaction.
@@ -224,7 +231,7 @@ impl Index {
             txn: t,
             number,
             place,
-            start: self.txns.infos[txn as usize].start,
+            start: self.txns.spans[txn as usize].start,
             has_written: !self.writes.by_txn.at(txn as usize).is_empty(),
         }
     }

@@ -1,9 +1,9 @@
 //! The tables of transactions and of write events.
 ghost use Rattle.std.specs.Prelude.{IfOk, length};
 ghost use Rattle.sia_index.specs.Rows.{AreNamesOf, IsColumn};
-ghost use Rattle.sia_index.specs.Tables.{AreInfos, AreTxns, AreWriteTables};
+ghost use Rattle.sia_index.specs.Tables.{AreTxns, AreWriteTables};
 
-use crate::info::{Fate, Lifetime, TxnInfo};
+use crate::info::Lifetime;
 use crate::keyed::{By, ByKey, ByPlace, ByTxn};
 use crate::lists::Lists;
 use crate::minima::minima_of;
@@ -11,6 +11,13 @@ use crate::names::{ByName, Numbered, places_of};
 use crate::ordering::Sorter;
 use sia_events::{Key, Log, Row, TxnEnd, TxnId};
 use std::alloc::{AllocError, Global};
+
+/// When a transaction starts, and how it ends.
+#[derive(Clone, Copy)]
+pub struct TxnSpan {
+    pub start: u32,
+    pub end: TxnEnd,
+}
 
 /// Every transaction once, ascending, and every committed one, with its lifetime beside it. The tables of numbers have for each
 /// number in the log the place of the transaction among these, and `order` has for each place among all the number there.
@@ -20,7 +27,7 @@ pub struct Txns {
     pub order: Vec<u32>,
     pub numbers: Vec<Option<u32>>,
     /// By the log's numbers.
-    pub infos: Vec<TxnInfo>,
+    pub spans: Vec<TxnSpan>,
     pub committed: Vec<TxnId>,
     pub lifetimes: Vec<Lifetime>,
     pub committed_numbers: Vec<Option<u32>>,
@@ -31,11 +38,13 @@ pub fn txns_of(alloc: Global, log: &Log) -> Result<Txns, AllocError>
     ensures { IfOk result (λ txns. AreTxns log.now txns) }
 {
     log.law();
-    let infos = infos_of(alloc, log)?;
     let count = log.txn_count();
+    let mut spans = Vec::with_capacity(alloc, count as usize)?;
     let mut rows = Vec::with_capacity(alloc, count as usize)?;
     for number in 0..count {
-        let name = log.txn(number).name;
+        let known = log.txn(number);
+        let (name, start, end) = (known.name, known.start, known.end);
+        spans.push(TxnSpan { start, end })?;
         rows.push(Numbered { name, number })?;
     }
     // Mostly the numbers are in the order of the names.
@@ -59,7 +68,7 @@ pub fn txns_of(alloc: Global, log: &Log) -> Result<Txns, AllocError>
         ids,
         order,
         numbers,
-        infos,
+        spans,
         committed,
         lifetimes,
         committed_numbers,
@@ -78,24 +87,6 @@ fn columns_of(alloc: Global, rows: &[Numbered<TxnId>]) -> Result<(Vec<TxnId>, Ve
         numbers.push(row.number)?;
     }
     Ok((names, numbers))
-}
-
-/// What is known of each transaction, by its number.
-fn infos_of(alloc: Global, log: &Log) -> Result<Vec<TxnInfo>, AllocError>
-    ensures { IfOk result (λ infos. AreInfos log.now infos.items) }
-{
-    let mut infos = Vec::with_capacity(alloc, log.txn_count() as usize)?;
-    for number in 0..log.txn_count() {
-        let txn = log.txn(number);
-        let (ended, fate) = match txn.end {
-            TxnEnd::Open => (None, Fate::Unfinished),
-            TxnEnd::Committed(place) => (Some(place), Fate::Committed),
-            TxnEnd::Aborted(place) => (Some(place), Fate::Aborted),
-        };
-        let start = txn.start;
-        infos.push(TxnInfo { start, ended, fate })?;
-    }
-    Ok(infos)
 }
 
 /// A write event: its key, its place, and the number of its transaction in the log.
