@@ -214,14 +214,14 @@ fn misfits_of(alloc: Global, ix: &Index, j: &Judgement) -> Result<Vec<Bounds>, N
     ix.law();
     let mut all = vec![in alloc; UNKNOWN; ix.txns().len()]?;
     for b in &j.bad_reads {
-        let number = ix.reader(b.txn, b.place).number;
+        let number = ix.txn_number(b.txn).unwrap_or(0);
         let is_lost = b.due == b.txn || b.saw != 0 && ix.lifetime_of(b.saw).is_none();
         let lost = is_lost.then_some((b.place, b.key));
         all[number].misfit = true;
         all[number].never = all[number].never.or(lost);
     }
     for b in &j.bad_writes {
-        let number = ix.reader(b.second, 0).number;
+        let number = ix.txn_number(b.second).unwrap_or(0);
         all[number].misfit = true;
     }
     Ok(all)
@@ -240,12 +240,15 @@ pub(crate) fn bounds_of(
 {
     log.law();
     let mut all = misfits_of(alloc, ix, j)?;
+    let numbers = ix.txn_numbers(alloc)?;
     for before in 0..log.len() {
         let place = before + 1;
         if let Some(row) = log.row(place) {
-            let reader = ix.reader_at(txn_of(row), place);
-            if all[reader.number].misfit {
-                all[reader.number].put_row(log, ix, reader.txn, place, row);
+            let txn = txn_of(row);
+            let number = numbers[txn as usize];
+            if all[number].misfit {
+                let name = log.txn(txn).name;
+                all[number].put_row(log, ix, name, place, row);
             }
         }
     }

@@ -4,3 +4,4 @@ pub mod OwnRows
 pub mod PositionLaws
 pub mod Table
 pub mod Tallies
+pub mod TxnNumbers

@@ -1,14 +1,14 @@
 -- What is known of a transaction, and of a committed transaction's version of a key.
-use Rattle.std.specs.Prelude.{◌≡◌, ◌<◌, ◌≤◌, ℕ, true, false, List, [], ◌∷◌, Option, Some, None, slice_index, length}
+use Rattle.std.specs.Prelude.{◌≡◌, ◌<◌, ◌≤◌, ℕ, true, false, List, [], ◌∷◌, Option, Some, None, slice_get, slice_index, length}
 use Rattle.sia_events.specs.declared.event.Event.{Event}
 use Rattle.sia_events.specs.Lists.{ListsBy, ListsAscending}
+use Rattle.sia_events.specs.Numbering.{txns_of}
 use Rattle.sia_events.specs.Transactions.{StartsAt, CommitsAt, AbortsAt, IsOpen, WritesAt, Wrote}
 use Rattle.sia_index.specs.declared.info.Made.{Made}
 use Rattle.sia_index.specs.declared.info.Reader.{Reader}
 use Rattle.sia_index.specs.declared.info.TxnInfo.{TxnInfo}
 use Rattle.sia_index.specs.declared.info.Fate.{Fate}
 use Rattle.sia_index.specs.declared.info.Fate.TheVariants.{Committed, Aborted, Unfinished}
-use Rattle.sia_index.specs.Numbers.{IsTxnAt}
 
 -- how t ended, and where
 abbrev pub EndsAs : List Event → ℕ → Fate → Option ℕ → Type 0
@@ -52,6 +52,6 @@ pub record IsReader (h : List Event) (t p : ℕ) (r : Reader) : Type 0 where
   pub txn_is : r.txn ≡ t
   pub place_is : r.place ≡ p
   pub starts : StartsAt h t r.start
-  pub numbered : IsTxnAt h r.number t
+  pub numbered : slice_get (txns_of h) r.number ≡ Some t
   pub wrote_none : r.has_written ≡ false → (k : ℕ) → ¬ Wrote h t k
   pub wrote_some : r.has_written ≡ true → (k : ℕ) × Wrote h t k

@@ -1,6 +1,7 @@
 -- What the tables of an index hold of its history.
 use Rattle.std.specs.Prelude.{◌≡◌, ◌<◌, ◌≤◌, ◌+◌, ℕ, Option, Some, None, MatchOption, List, [], length, slice_get, slice_index, slice_index_or}
 use Rattle.sia_events.specs.declared.event.Event.{Event}
+use Rattle.sia_events.specs.declared.log.TxnRow.{TxnRow}
 use Rattle.sia_events.specs.Lists.{ListsAscending}
 use Rattle.sia_events.specs.Numbering.{Ends, txns_of, keys_of}
 use Rattle.sia_events.specs.Refusals.{IsWellFormed}
@@ -13,7 +14,6 @@ use Rattle.sia_index.specs.VersionRows.{AreFirsts, AreRowsByPosition, AreWritesA
 use Rattle.sia_index.specs.declared.versions.VersionRow.{VersionRow}
 use Rattle.sia_index.specs.declared.names.Keys.{Keys}
 use Rattle.sia_index.specs.declared.txns.Txns.{Txns}
-use Rattle.sia_index.specs.declared.txns.TxnSpan.{TxnSpan}
 use Rattle.sia_index.specs.declared.versions.Versions.{Versions}
 use Rattle.sia_index.specs.declared.txns.Writes.{Writes}
 
@@ -31,23 +31,23 @@ pub record AreNumbers (K : ℕ → Type 0) (names listed : List ℕ) (numbers : 
   pub few : length listed ≤ length names
   pub each : (q : ℕ) → q < length names → MatchOption (slice_index_or numbers q None) (¬ K (slice_index names q)) (λ i. (i < length listed) × (slice_index listed i ≡ slice_index names q))
 
--- where t starts, and how it ended
-abbrev pub IsSpan : List Event → ℕ → TxnSpan → Type 0
-IsSpan h t span = StartsAt h t span.start × Ends h t span.end
+-- the row is of t: where it starts, and how it ended
+abbrev pub IsTxnRow : List Event → ℕ → TxnRow → Type 0
+IsTxnRow h t row = (row.name ≡ t) × StartsAt h t row.start × Ends h t row.end
 
--- the span of each transaction stands at its number in the log
-pub record AreSpans (h : List Event) (spans : List TxnSpan) : Type 0 where
-  pub count : length spans ≡ length (txns_of h)
-  pub right : (i : ℕ) (d : TxnSpan) → i < length (txns_of h) → IsSpan h (slice_index (txns_of h) i) (slice_index_or spans i d)
+-- the row of each transaction stands at its number in the log
+pub record AreTxnRows (h : List Event) (rows : List TxnRow) : Type 0 where
+  pub count : length rows ≡ length (txns_of h)
+  pub right : (i : ℕ) (d : TxnRow) → i < length (txns_of h) → IsTxnRow h (slice_index (txns_of h) i) (slice_index_or rows i d)
 
 -- the number in a log of each of the listed names stands at its place
 abbrev pub AreNumbersOf : List ℕ → List ℕ → List ℕ → Type 0
 AreNumbersOf names listed order = (length order ≡ length listed) × ((i d : ℕ) → i < length listed → slice_get names (slice_index_or order i d) ≡ Some (slice_index listed i))
 
 pub record AreTxns (h : List Event) (t : Txns) : Type 0 where
-  pub all : AreNumbers (HasEvent h) (txns_of h) t.ids.items t.numbers.items
+  pub all : ListsAscending (HasEvent h) t.ids.items
   pub order : AreNumbersOf (txns_of h) t.ids.items t.order.items
-  pub spans : AreSpans h t.spans.items
+  pub known : AreTxnRows h t.known.items
   pub committed : AreNumbers (IsCommitted h) (txns_of h) t.committed.items t.committed_numbers.items
   pub lifetimes : AreLifetimes h t.committed.items t.lifetimes.items
 

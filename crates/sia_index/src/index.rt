@@ -1,5 +1,5 @@
 //! An index of a history, and what it answers.
-ghost use Rattle.std.specs.Prelude.{◌≡◌, ◌<◌, ℕ, MatchOption, ◌↔◌, IsTrue, List, Some, length, All, slice_get};
+ghost use Rattle.std.specs.Prelude.{◌≡◌, ◌<◌, ℕ, IfOk, MatchOption, ◌↔◌, IsTrue, List, Some, length, All, slice_get};
 ghost use Rattle.sia_events.specs.declared.event.Event.{Event};
 ghost use Rattle.sia_events.specs.Lists.{ListsAscending};
 ghost use Rattle.sia_events.specs.Numbering.{names_of, txns_of, txn_at};
@@ -7,7 +7,7 @@ ghost use Rattle.sia_events.specs.Refusals.{IsWellFormed};
 ghost use Rattle.sia_events.specs.Transactions.{HasEvent, IsCommitted, Wrote, Overlap, WroteBefore};
 ghost use Rattle.sia_index.specs.Info.{IsInfo, IsKeyAt, HasKeyAt, AreVersions, AreWrittenKeys, IsFirstWrite, IsReader};
 ghost use Rattle.sia_index.specs.Lifetimes.{AreLifetimes, IsLifetime};
-ghost use Rattle.sia_index.specs.Numbers.{HasTxnAt, IsTxnAt, IsCommittedAt};
+ghost use Rattle.sia_index.specs.Numbers.{AreTxnNumbers, HasTxnAt, IsTxnAt, IsCommittedAt};
 ghost use Rattle.sia_index.specs.Positions.{AreAllVersions};
 ghost use Rattle.sia_index.specs.Rows.{IsKeyStretch, PassesNone};
 ghost use Rattle.sia_index.specs.declared.info.KeyVersion.{KeyVersion};
@@ -23,10 +23,11 @@ use crate::names::Keys;
 use crate::txns::{Txns, WriteRow, Writes};
 use crate::versions::Versions;
 use sia_events::{Key, Log, TxnEnd, TxnId, Version};
+use std::alloc::{AllocError, Global};
 use std::marker::Model;
 use std::snapshot::Snapshot;
 
-/// A history, as what is asked of it needs it. No answer takes memory.
+/// A history, as what is asked of it needs it. No answer but `txn_numbers` takes memory.
 #[derive(Drop)]
 pub struct Index {
     pub(crate) of: Snapshot<Log>,
@@ -67,10 +68,21 @@ impl Index {
     }
 
     /// The number of a transaction among all of them, counted from 0.
-    pub(crate) fn txn_number(&self, t: TxnId) -> Option<usize>
+    pub fn txn_number(&self, t: TxnId) -> Option<usize>
         ensures { MatchOption result (¬ HasEvent self.now t) (λ i. IsTxnAt self.now i t) }
     {
         find::<TxnId, ByTxn>(&self.txns.ids, u64::from(t))
+    }
+
+    /// The same of each of the log's transactions, by its number there.
+    pub fn txn_numbers(&self, alloc: Global) -> Result<Vec<usize>, AllocError>
+        ensures { IfOk result (λ numbers. AreTxnNumbers self.now numbers.items) }
+    {
+        let mut numbers = vec![in alloc; 0usize; self.txns.known.len()]?;
+        for (i, txn) in self.txns.order.iter().enumerate() {
+            numbers[*txn as usize] = i;
+        }
+        Ok(numbers)
     }
 
     /// What is known of transaction number `i`, counted from 0: no search is needed.
@@ -78,9 +90,9 @@ impl Index {
         requires { HasTxnAt self.now i }
         ensures { (t : ℕ) → IsTxnAt self.now i t → IsInfo self.now t result }
     {
-        let span = self.txns.spans[self.txns.order[i] as usize];
-        let start = span.start;
-        let (ended, fate) = match span.end {
+        let known = self.txns.known[self.txns.order[i] as usize];
+        let start = known.start;
+        let (ended, fate) = match known.end {
             TxnEnd::Open => (None, Fate::Unfinished),
             TxnEnd::Committed(place) => (Some(place), Fate::Committed),
             TxnEnd::Aborted(place) => (Some(place), Fate::Aborted),
@@ -184,15 +196,15 @@ impl Index {
         ensures { MatchOption result (¬ Wrote self.now t k) (IsFirstWrite self.now t k) }
     {
         let number = self.txn_number(t)?;
-        self.first_write_at(t, number, k)
+        self.first_write_at(t, self.txns.order[number], k)
     }
 
-    /// The same of transaction number `i`.
-    pub(crate) fn first_write_at(&self, t: TxnId, i: usize, k: Key) -> Option<u32>
-        requires { IsTxnAt self.now i t }
+    /// The same of a transaction whose number in the log is known.
+    pub(crate) fn first_write_at(&self, t: TxnId, txn: u32, k: Key) -> Option<u32>
+        requires { slice_get (txns_of self.now) txn ≡ Some t }
         ensures { MatchOption result (¬ Wrote self.now t k) (IsFirstWrite self.now t k) }
     {
-        let own = self.writes.by_txn.at(self.txns.order[i] as usize);
+        let own = self.writes.by_txn.at(txn as usize);
         let row = own.get(place_from::<WriteRow, ByKey>(own, k))?;
         if row.key != k {
             return None;
@@ -209,7 +221,7 @@ impl Index {
     {
         let _ = &self.of;
         let number = self.txn_number(t).unwrap_or(0);
-        self.reader_of(t, number, self.txns.order[number], place)
+        self.reader_at(self.txns.order[number], place)
     }
 
     /// The same of the log's transaction: no search is needed.
@@ -217,21 +229,12 @@ impl Index {
         requires { txn < length (txns_of self.now) }
         ensures { IsReader self.now (txn_at (names_of self.now) txn) place result }
     {
-        let number = self.txns.numbers[txn as usize].unwrap_or(0) as usize;
-        self.reader_of(self.txns.ids[number], number, txn, place)
-    }
-
-    /// The same of a transaction by its number among all of them and by that in the log.
-    fn reader_of(&self, t: TxnId, number: usize, txn: u32, place: u32) -> Reader
-        requires number { IsTxnAt self.now number t }
-        requires txn { slice_get (txns_of self.now) txn ≡ Some t }
-        ensures { IsReader self.now t place result }
-    {
+        let known = self.txns.known[txn as usize];
         Reader {
-            txn: t,
-            number,
+            txn: known.name,
+            number: txn,
             place,
-            start: self.txns.spans[txn as usize].start,
+            start: known.start,
             has_written: !self.writes.by_txn.at(txn as usize).is_empty(),
         }
     }
@@ -275,8 +278,7 @@ impl Index {
             return None;
         }
         let rows = self.writes.by_txn.rows();
-        let txn = self.txns.order[reader.number];
-        let (from, to) = self.writes.by_txn.span(txn as usize);
+        let (from, to) = self.writes.by_txn.span(reader.number as usize);
         let first = from + place_from::<WriteRow, ByKey>(&rows[from..to], lo);
         let last = from + place_above::<WriteRow, ByKey>(&rows[from..to], hi);
         let place = u64::from(reader.place);

@@ -9,25 +9,17 @@ use crate::lists::Lists;
 use crate::minima::minima_of;
 use crate::names::{ByName, Numbered, places_of};
 use crate::ordering::Sorter;
-use sia_events::{Key, Log, Row, TxnEnd, TxnId};
+use sia_events::{Key, Log, Row, TxnEnd, TxnId, TxnRow};
 use std::alloc::{AllocError, Global};
 
-/// When a transaction starts, and how it ends.
-#[derive(Clone, Copy)]
-pub struct TxnSpan {
-    pub start: u32,
-    pub end: TxnEnd,
-}
-
-/// Every transaction once, ascending, and every committed one, with its lifetime beside it. The tables of numbers have for each
-/// number in the log the place of the transaction among these, and `order` has for each place among all the number there.
+/// Every transaction once, ascending, and every committed one, with its lifetime beside it. `order` has for each place among all the
+/// number in the log, and `committed_numbers` for each number there the place among the committed ones, if there is one.
 #[derive(Drop)]
 pub struct Txns {
     pub ids: Vec<TxnId>,
     pub order: Vec<u32>,
-    pub numbers: Vec<Option<u32>>,
     /// By the log's numbers.
-    pub spans: Vec<TxnSpan>,
+    pub known: Vec<TxnRow>,
     pub committed: Vec<TxnId>,
     pub lifetimes: Vec<Lifetime>,
     pub committed_numbers: Vec<Option<u32>>,
@@ -39,18 +31,17 @@ pub fn txns_of(alloc: Global, log: &Log) -> Result<Txns, AllocError>
 {
     log.law();
     let count = log.txn_count();
-    let mut spans = Vec::with_capacity(alloc, count as usize)?;
+    let mut known = Vec::with_capacity(alloc, count as usize)?;
     let mut rows = Vec::with_capacity(alloc, count as usize)?;
     for number in 0..count {
-        let known = log.txn(number);
-        let (name, start, end) = (known.name, known.start, known.end);
-        spans.push(TxnSpan { start, end })?;
+        let row = log.txn(number);
+        let name = row.name;
+        known.push(row)?;
         rows.push(Numbered { name, number })?;
     }
     // Mostly the numbers are in the order of the names.
     Sorter::with_capacity(alloc, rows.len())?.sort::<ByName>(&mut rows);
     let (ids, order) = columns_of(alloc, &rows)?;
-    let numbers = places_of(alloc, count, &rows)?;
     let mut ended = Vec::with_capacity(alloc, rows.len())?;
     let mut committed = Vec::with_capacity(alloc, rows.len())?;
     let mut lifetimes = Vec::with_capacity(alloc, rows.len())?;
@@ -67,8 +58,7 @@ pub fn txns_of(alloc: Global, log: &Log) -> Result<Txns, AllocError>
     Ok(Txns {
         ids,
         order,
-        numbers,
-        spans,
+        known,
         committed,
         lifetimes,
         committed_numbers,

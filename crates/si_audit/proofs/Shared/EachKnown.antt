@@ -1,15 +1,16 @@
 -- Rows of transactions by their numbers, of which one is changed.
 use Rattle.std.proofs.Common.{◌≡◌, ◌≢◌, inl, inr, ℕ, ◌+◌, ◌<◌, ◌≤◌, List, [], ◌∷◌, Some, length, set, get_or, refl, ap, sym, subst, ◌∙◌, arith}
-use Rattle.std.specs.Prelude.{slice_get, slice_index}
+use Rattle.std.specs.Prelude.{slice_get, slice_index, slice_index_or}
 use Rattle.std.proofs.lemmas.Bool.{cases_eq}
-use Rattle.std.proofs.lemmas.List.{get_or-set_other, get_or-set_same, length-set}
+use Rattle.std.proofs.lemmas.List.{get_or_default, get_or-set_other, get_or-set_same, length-set}
 use Rattle.std.proofs.lemmas.List.Elements.{Contains-get_or}
 use Rattle.std.proofs.lemmas.Option.{get_or_from_slice_get, slice_get-get_or, slice_get_within}
 use Rattle.sia_events.specs.declared.event.Event.{Event}
 use Rattle.sia_events.specs.Lists.{ListsAscending}
+use Rattle.sia_events.specs.Numbering.{names_of, txn_at, txns_of}
 use Rattle.sia_events.specs.Transactions.{HasEvent}
 use Rattle.sia_events.proofs.Worked.OneList.{one_list_by}
-use Rattle.sia_index.specs.Numbers.{IsTxnAt}
+use Rattle.sia_index.specs.Numbers.{AreTxnNumbers, IsTxnAt}
 use Rattle.sia_parts.proofs.CutKeys.StartLemmas.{increasing}
 use Rattle.sia_graph.proofs.Shared.AscendingIds.{one_id}
 use Rattle.si_audit.specs.Bounds.{IsKnownOf, IsKnownTo}
@@ -30,6 +31,10 @@ module _ (h : List Event) where
   one_number i j t a b =
       let x = in_list a.0 j t b (one_list_by (λ x. x ∷ []) (HasEvent h) b.0 a.0 b.1 a.1) in
       one_id a.0 (increasing a.0 a.1.ascending) i j a.2 x.0 (a.3 ∙ sym x.1)
+
+  -- the number that stands at a transaction's number in the log
+  pub number_told : (numbers : List ℕ) → AreTxnNumbers h numbers → (q : ℕ) → q < length (txns_of h) → (n : ℕ) → n ≡ slice_index_or numbers q n → IsTxnAt h n (txn_at (names_of h) q)
+  number_told numbers are q below n is = subst (λ m. IsTxnAt h m (txn_at (names_of h) q)) (sym (is ∙ get_or_default numbers q n 0 (omega (arith, are.0)))) (are.1 q (txn_at (names_of h) q) (slice_get-get_or (txns_of h) q 0 below))
 
   -- the number of a place in a list of all transactions
   module _ (g : List Event) (same : g ≡ h) (txns : List ℕ) (are : ListsAscending (HasEvent g) txns) where

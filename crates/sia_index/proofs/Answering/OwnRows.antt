@@ -8,11 +8,11 @@ use Rattle.std.proofs.lemmas.List.Edits.{length-between, get_or-between}
 use Rattle.std.proofs.lemmas.List.Elements.{Contains-get_or}
 use Rattle.std.proofs.lemmas.Option.{get_or_from_slice_get, slice_get_within}
 use Rattle.sia_events.specs.declared.event.Event.{Event}
+use Rattle.sia_events.specs.declared.log.TxnRow.{TxnRow}
 use Rattle.sia_events.specs.Numbering.{txns_of}
 use Rattle.sia_events.specs.Transactions.{WritesAt, Wrote, WroteBefore}
 use Rattle.sia_index.specs.declared.names.Keys.{Keys}
 use Rattle.sia_index.specs.declared.txns.Txns.{Txns}
-use Rattle.sia_index.specs.declared.txns.TxnSpan.{TxnSpan}
 use Rattle.sia_index.specs.declared.txns.WriteRow.{WriteRow}
 use Rattle.sia_index.specs.declared.txns.Writes.{Writes}
 use Rattle.sia_index.specs.declared.versions.Versions.{Versions}
@@ -20,7 +20,7 @@ use Rattle.sia_index.specs.Info.{IsFirstWrite}
 use Rattle.sia_index.specs.Minima.{IsNextBelow}
 use Rattle.sia_index.specs.Numbers.{IsTxnAt}
 use Rattle.sia_index.specs.Rows.{AreWritesOf, PassesNone}
-use Rattle.sia_index.specs.Tables.{AreTables, IsSpan}
+use Rattle.sia_index.specs.Tables.{AreTables, IsTxnRow}
 use Rattle.sia_index.proofs.Shared.NumberedNames.{its_number}
 use Rattle.sia_index.proofs.Sorting.Points.{PointBelow, PointWithin, point_below, point_from, point_within, point_above}
 
@@ -28,17 +28,17 @@ use Rattle.sia_index.proofs.Sorting.Points.{PointBelow, PointWithin, point_below
 pub its_order : (g h : List Event) → g ≡ h → (txns : Txns) (keys : Keys) (versions : Versions) (writes : Writes) → AreTables g txns keys versions writes → (i t : ℕ) → IsTxnAt h i t → (i < length txns.order.items) × ((n : ℕ) → n ≡ slice_index_or txns.order.items i n → slice_get (txns_of h) n ≡ Some t)
 its_order g h same txns keys versions writes are i t at =
     let all = subst (λ h. AreTables h txns keys versions writes) same are in
-    let number = its_number _ _ all.txns_are.all.listed_are i t at in
+    let number = its_number _ _ all.txns_are.all i t at in
     let order = all.txns_are.order in
     (omega (arith, order.0, number.0), λ n is. subst (λ m. slice_get (txns_of h) m ≡ Some t) (sym is) (subst (λ u. slice_get (txns_of h) (slice_index_or txns.order.items i n) ≡ Some u) number.1 (order.1 i n number.0)))
 
--- where the log's transaction number n starts, and how it ended
-pub own_span : (g h : List Event) → g ≡ h → (txns : Txns) (keys : Keys) (versions : Versions) (writes : Writes) → AreTables g txns keys versions writes → (n t : ℕ) → slice_get (txns_of h) n ≡ Some t → (n < length txns.spans.items) × ((span : TxnSpan) → span ≡ slice_index_or txns.spans.items n span → IsSpan h t span)
-own_span g h same txns keys versions writes are n t at =
+-- what is known of the log's transaction number n
+pub own_row : (g h : List Event) → g ≡ h → (txns : Txns) (keys : Keys) (versions : Versions) (writes : Writes) → AreTables g txns keys versions writes → (n t : ℕ) → slice_get (txns_of h) n ≡ Some t → (n < length txns.known.items) × ((row : TxnRow) → row ≡ slice_index_or txns.known.items n row → IsTxnRow h t row)
+own_row g h same txns keys versions writes are n t at =
     let all = subst (λ h. AreTables h txns keys versions writes) same are in
     let within = slice_get_within (txns_of h) n t at in
-    let spans = all.txns_are.spans in
-    (omega (arith, spans.count), λ span is. subst (IsSpan h t) (sym is) (subst (λ u. IsSpan h u (slice_index_or txns.spans.items n span)) (get_or_from_slice_get (txns_of h) n t 0 at) (spans.right n span within)))
+    let known = all.txns_are.known in
+    (omega (arith, known.count), λ row is. subst (IsTxnRow h t) (sym is) (subst (λ u. IsTxnRow h u (slice_index_or txns.known.items n row)) (get_or_from_slice_get (txns_of h) n t 0 at) (known.right n row within)))
 
 -- list number n has the writes of the log's transaction number n
 pub own_rows : (g h : List Event) → g ≡ h → (txns : Txns) (keys : Keys) (versions : Versions) (writes : Writes) → AreTables g txns keys versions writes → (n t : ℕ) → slice_get (txns_of h) n ≡ Some t → (n < length writes.by_txn) × AreWritesOf h t n (slice_index_or writes.by_txn n [])

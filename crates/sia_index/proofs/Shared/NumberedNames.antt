@@ -110,7 +110,7 @@ module _ (K : ℕ → Type 0) (names : List ℕ) (rows : List (Numbered ℕ)) (a
         | inr rest ↦ elim rest.1 [ inl before ↦ omega arith | inr never ↦ never.1 ]
       ]
 
-  module _ (once : StandOnce names) (known : (t : ℕ) → K t → (i : ℕ) × (slice_get names i ≡ Some t)) (listed : List ℕ) (named : AreNamesOf rows listed) (numbers : List (Option ℕ)) (places : ArePlaces (λ (row : Numbered ℕ). row.number) rows (length names) numbers) where
+  module _ (once : StandOnce names) (known : (t : ℕ) → K t → (i : ℕ) × (slice_get names i ≡ Some t)) (listed : List ℕ) (named : AreNamesOf rows listed) where
     row_of : (t i : ℕ) → slice_get names i ≡ Some t → K t → Contains rows (record { name = t; number = i })
     row_of t i at has = (are.each (record { name = t; number = i })).1 (at, has)
 
@@ -125,42 +125,47 @@ module _ (K : ℕ → Type 0) (names : List ℕ) (rows : List (Numbered ℕ)) (a
     name_of : (i d : ℕ) → i < length rows → slice_index_or listed i d ≡ (slice_index_or rows i none_numbered).name
     name_of i d below = named.1 i d none_numbered (omega (arith, named.0))
 
-    found : (q : ℕ) (place : Option ℕ) → q < length names → slice_index_or numbers q None ≡ place → MatchOption place (¬ K (slice_index names q)) (λ i. (i < length listed) × (slice_index listed i ≡ slice_index names q))
-    found q None inside is = λ has.
-        let row : Numbered ℕ = record { name = slice_index names q; number = q } in
-        let c = row_of (slice_index names q) q (slice_get-get_or names q 0 inside) has in
-        let at : slice_index_or numbers q None ≡ Some c.0 = ap (λ (r : Numbered ℕ). slice_index_or numbers r.number None) (sym c.2) ∙ places.each c.0 row c.1 in
-        let e : None ≡ Some c.0 = sym is ∙ at in
-        absurd cc
-    found q (Some i) inside is =
-        let at = places.only q i is in
-        let below : i < length rows = at.0 in
-        let name : slice_get names q ≡ Some (slice_index_or rows i none_numbered).name = subst (λ m. slice_get names m ≡ Some (slice_index_or rows i none_numbered).name) (at.1 none_numbered) (row_at i none_numbered below) in
-        (omega (arith, named.0), name_of i 0 below ∙ sym (get_or_from_slice_get names q (slice_index_or rows i none_numbered).name 0 name))
-
-    pub numbers_are : AreNumbers K names listed numbers
-    numbers_are = record {
-      listed_are = record {
-        ascending = λ i j d less below.
-            let within : j < length rows = omega (arith, named.0) in
-            let lower = rise i j less within in
-            let first = name_of i d (omega arith) in
-            let second = name_of j d within in
-            inl (omega arith);
-        each = λ t. (
-          (λ c.
-              let below : c.0 < length rows = let b = c.1 in omega (arith, named.0) in
-              subst K (sym (name_of c.0 t below) ∙ c.2) (rows_have c.0 none_numbered below)),
-          (λ has.
-              let number = known t has in
-              let c = row_of t number.0 number.1 has in
-              (c.0, (let b = c.1 in omega (arith, named.0)), named.1 c.0 t (record { name = t; number = number.0 }) (let b = c.1 in omega (arith, named.0)) ∙ ap (λ (r : Numbered ℕ). r.name) c.2)),
-        );
-      };
-      long = places.long;
-      few = let few = places.few in omega (arith, named.0);
-      each = λ q inside. found q (slice_index_or numbers q None) inside refl;
+    -- the names are those that have K, ascending
+    pub names_listed : ListsAscending K listed
+    names_listed = record {
+      ascending = λ i j d less below.
+          let within : j < length rows = omega (arith, named.0) in
+          let lower = rise i j less within in
+          let first = name_of i d (omega arith) in
+          let second = name_of j d within in
+          inl (omega arith);
+      each = λ t. (
+        (λ c.
+            let below : c.0 < length rows = let b = c.1 in omega (arith, named.0) in
+            subst K (sym (name_of c.0 t below) ∙ c.2) (rows_have c.0 none_numbered below)),
+        (λ has.
+            let number = known t has in
+            let c = row_of t number.0 number.1 has in
+            (c.0, (let b = c.1 in omega (arith, named.0)), named.1 c.0 t (record { name = t; number = number.0 }) (let b = c.1 in omega (arith, named.0)) ∙ ap (λ (r : Numbered ℕ). r.name) c.2)),
+      );
     }
+
+    module _ (numbers : List (Option ℕ)) (places : ArePlaces (λ (row : Numbered ℕ). row.number) rows (length names) numbers) where
+      found : (q : ℕ) (place : Option ℕ) → q < length names → slice_index_or numbers q None ≡ place → MatchOption place (¬ K (slice_index names q)) (λ i. (i < length listed) × (slice_index listed i ≡ slice_index names q))
+      found q None inside is = λ has.
+          let row : Numbered ℕ = record { name = slice_index names q; number = q } in
+          let c = row_of (slice_index names q) q (slice_get-get_or names q 0 inside) has in
+          let at : slice_index_or numbers q None ≡ Some c.0 = ap (λ (r : Numbered ℕ). slice_index_or numbers r.number None) (sym c.2) ∙ places.each c.0 row c.1 in
+          let e : None ≡ Some c.0 = sym is ∙ at in
+          absurd cc
+      found q (Some i) inside is =
+          let at = places.only q i is in
+          let below : i < length rows = at.0 in
+          let name : slice_get names q ≡ Some (slice_index_or rows i none_numbered).name = subst (λ m. slice_get names m ≡ Some (slice_index_or rows i none_numbered).name) (at.1 none_numbered) (row_at i none_numbered below) in
+          (omega (arith, named.0), name_of i 0 below ∙ sym (get_or_from_slice_get names q (slice_index_or rows i none_numbered).name 0 name))
+
+      pub numbers_are : AreNumbers K names listed numbers
+      numbers_are = record {
+        listed_are = names_listed;
+        long = places.long;
+        few = let few = places.few in omega (arith, named.0);
+        each = λ q inside. found q (slice_index_or numbers q None) inside refl;
+      }
 
 -- what has K has a number among the names that are listed
 pub number_there : (K : ℕ → Type 0) (names listed : List ℕ) (numbers : List (Option ℕ)) → AreNumbers K names listed numbers → (q : ℕ) → q < length names → (place : Option ℕ) → place ≡ slice_index_or numbers q None → K (slice_index names q) → (unwrap_or place 0 < length listed) × (slice_index listed (unwrap_or place 0) ≡ slice_index names q)
@@ -209,11 +214,3 @@ number_written h names listed numbers are q inside place is = of_place place (nu
 pub has_number : (h : List Event) (t : ℕ) (found : Option ℕ) → MatchOption found (¬ HasEvent h t) (λ i. IsTxnAt h i t) → HasEvent h t → IsTxnAt h (unwrap_or found 0) t
 has_number h t (Some i) at has = at
 has_number h t None none has = absurd (none has)
-
--- the number of a log's transaction among all
-pub txn_numbered : (h : List Event) (ids : List ℕ) (numbers : List (Option ℕ)) → AreNumbers (HasEvent h) (txns_of h) ids numbers → (q : ℕ) → q < length (txns_of h) → (place : Option ℕ) (n : ℕ) → place ≡ slice_index_or numbers q place → n ≡ unwrap_or place 0 → (n < length ids) × (slice_index ids n ≡ slice_index (txns_of h) q)
-txn_numbered h ids numbers are q inside place n at is =
-    let t = slice_index (txns_of h) q in
-    let has = numbered_has_event h q t (slice_get-get_or (txns_of h) q 0 inside) in
-    let told = number_there (HasEvent h) (txns_of h) ids numbers are q inside place (at ∙ get_or_default numbers q place None (omega (arith, are.long, inside))) has in
-    subst (λ m. (m < length ids) × (slice_index ids m ≡ t)) (sym is) told

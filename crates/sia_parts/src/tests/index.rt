@@ -21,10 +21,7 @@ fn index_of(alloc: Global, text: &[u8]) -> Result<Index, Fail> {
 
 // Whether the transaction has an event, and this number among all that have one.
 fn has_number(index: &Index, t: TxnId, i: usize) -> bool {
-    if index.txn(t).is_none() {
-        return false;
-    }
-    index.reader(t, 0).number == i
+    index.txn_number(t) == Some(i)
 }
 
 fn has_txns(index: &Index, txns: &[(TxnId, TxnInfo)]) -> bool {
@@ -137,6 +134,8 @@ fn numbers(rt: HostRuntime) -> Result<(), Fail> {
         committed.push((*t, lifetime.start, lifetime.commit))?;
     }
     assert!(rt; committed.as_slice() == NUMBERED.committed);
+    let numbers = index.txn_numbers(rt.alloc())?;
+    assert!(rt; numbers.as_slice() == NUMBERED.txns);
     for txn in 0..log.txn_count() {
         let (number, reader) = (index.committed_number(txn), index.reader_at(txn, 10));
         assert!(rt;

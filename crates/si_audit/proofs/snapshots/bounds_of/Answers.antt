@@ -2,36 +2,52 @@
 use Rattle.std.proofs.Common.{◌≡◌, inl, inr, ◌+◌, ◌<◌, ◌≤◌, List, Some, Vec, Global, false, true, get_or, length, ap, sym, subst, ◌∙◌, arith}
 use Rattle.std.specs.Prelude.{slice_get}
 use Rattle.std.proofs.lemmas.Bool.{cases_eq, cases_lt}
-use Rattle.std.proofs.lemmas.Option.{slice_get_within}
+use Rattle.std.proofs.lemmas.Option.{get_or_from_slice_get, slice_get_within}
 use Rattle.sia_events.specs.Events.{actor}
 use Rattle.sia_events.specs.Numbering.{event_of, names_of, txn_at, txns_of}
-use Rattle.sia_index.specs.Numbers.{IsTxnAt}
+use Rattle.sia_index.specs.Numbers.{AreTxnNumbers, IsTxnAt}
 use Rattle.sia_parts.proofs.Shared.RowTxns.{txn_acts, txn_within}
 use Rattle.si_audit.specs.Bounds.{EachTxn, IsBound, IsKnownOf, IsKnownTo, IsLow}
 use Rattle.si_audit.specs.Snapshots.{ReadAsks}
 use Rattle.si_audit.specs.declared.snapshots.Bounds.{Bounds}
-use Rattle.si_audit.proofs.Shared.EachKnown.{AreKnownFrom, each_set, has_event_at, number_at, number_below, one_number, same_row}
+use Rattle.si_audit.proofs.Shared.EachKnown.{AreKnownFrom, each_set, has_event_at, number_at, number_below, number_told, one_number, same_row}
 use Rattle.si_audit.proofs.Shared.KnownRows.{access_actor, known_fit, known_of, known_of_fit, known_on, none_accesses}
 use Rattle.si_audit.proofs.snapshots.bounds_of.Goals as goal
-use Rattle.si_audit.proofs.snapshots.bounds_of.Goals.{in-Some+then-index, in-Some+else-index, in_default, then-index-2, else-index-2}
+use Rattle.si_audit.proofs.snapshots.bounds_of.Goals.{After-index-number, After-txn_of-txn, in-Some+then-index, in-Some+else-index, in_default, then-index-2, else-index-2}
 
 pub loop-before-init : goal.loop-before-init
 loop-before-init c = subst (λ g. EachTxn (λ t. IsKnownTo g t 1) g c.in_ok-all.all.items) c.requires.index c.in_ok-all.ensures
 
-pub reader_at-reader-requires : goal.reader_at-reader-requires
-reader_at-reader-requires c = subst (λ g. c.txn_of.result < length (txns_of g)) (sym c.requires.index) (subst (λ n. n < length (txns_of c.args.log.now)) (sym c.txn_of.ensures) (txn_within (names_of c.args.log.now) c.in-Some.row c.in-Some.ensures.within))
+-- who acts has a number in the log, and so one among all
+acts : (c : After-txn_of-txn) → c.txn_of-txn.result < length (txns_of c.args.log.now)
+acts c = subst (λ n. n < length (txns_of c.args.log.now)) (sym c.txn_of-txn.ensures) (txn_within (names_of c.args.log.now) c.in-Some.row c.in-Some.ensures.within)
+
+numbers : (c : After-txn_of-txn) → AreTxnNumbers c.args.log.now c.in_ok-numbers.numbers.items
+numbers c = subst (λ g. AreTxnNumbers g c.in_ok-numbers.numbers.items) c.requires.index c.in_ok-numbers.ensures
+
+pub index-number-requires : goal.index-number-requires
+index-number-requires c = let d = (goal.at.index-number-requires c).After-txn_of-txn in omega (arith, acts d, (numbers d).0, c.in_ok-numbers.numbers.ok)
+
+number : (c : After-index-number) → IsTxnAt c.args.log.now c.index-number.result.now (txn_at (names_of c.args.log.now) c.txn_of-txn.result)
+number c = let d = (goal.at.After-index-number c).After-txn_of-txn in number_told c.args.log.now c.in_ok-numbers.numbers.items (numbers d) c.txn_of-txn.result (acts d) c.index-number.result.now c.index-number.ensures
+
+pub txn-name-requires : goal.txn-name-requires
+txn-name-requires c = acts (goal.at.txn-name-requires c).After-txn_of-txn
 
 pub index-requires : goal.index-requires
 index-requires c =
-    let row = c.loop-before.invariant c.reader_at-reader.result.number _ (subst (λ g. IsTxnAt g c.reader_at-reader.result.number (txn_at (names_of g) c.txn_of.result)) c.requires.index c.reader_at-reader.ensures.numbered) in
-    let below = slice_get_within c.loop-before.all.items c.reader_at-reader.result.number row.0 row.1 in
+    let row = c.loop-before.invariant c.index-number.result.now _ (number (goal.at.index-requires c).After-index-number) in
+    let below = slice_get_within c.loop-before.all.items c.index-number.result.now row.0 row.1 in
     omega (arith, c.loop-before.all.ok.0)
 
 pub index_mut-requires : goal.index_mut-requires
 index_mut-requires c =
-    let row = c.loop-before.invariant c.reader_at-reader.result.number _ (subst (λ g. IsTxnAt g c.reader_at-reader.result.number (txn_at (names_of g) c.txn_of.result)) c.requires.index c.reader_at-reader.ensures.numbered) in
-    let below = slice_get_within c.loop-before.all.items c.reader_at-reader.result.number row.0 row.1 in
+    let row = c.loop-before.invariant c.index-number.result.now _ (number (goal.at.index_mut-requires c).After-index-number) in
+    let below = slice_get_within c.loop-before.all.items c.index-number.result.now row.0 row.1 in
     omega (arith, c.loop-before.all.ok.0)
+
+pub put_row-requires-clause-actor : goal.put_row-requires-clause-actor
+put_row-requires-clause-actor c = txn_acts (names_of c.args.log.now) c.in-Some.row ∙ ap (txn_at (names_of c.args.log.now)) (sym c.txn_of-txn.ensures) ∙ get_or_from_slice_get (txns_of c.args.log.now) c.txn_of-txn.result c.txn-name.result.name 0 c.txn-name.ensures.name
 
 pub loop-before-preserved : goal.loop-before-preserved
 loop-before-preserved c =
@@ -39,27 +55,28 @@ loop-before-preserved c =
     let wf = c.law.ensures in
     let p = c.loop-before.before + 1 in
     let all = c.loop-before.all.items in
-    let same = c.requires.index in
+    let all_numbers = subst (λ g. AreTxnNumbers g c.in_ok-numbers.numbers.items) c.requires.index c.in_ok-numbers.ensures in
     elim c.match-row.branch [
       | in-Some+then-index w ↦
-          let n = w.reader_at-reader.result.number in
-          let u = w.reader_at-reader.result.txn in
-          let is = w.reader_at-reader.ensures in
-          let here : IsTxnAt h n u = subst (λ g. IsTxnAt g n u) same (subst (IsTxnAt c.args.ix.now n) (sym is.txn_is) is.numbered) in
-          let named : u ≡ txn_at (names_of h) w.txn_of.result = subst (λ g. u ≡ txn_at (names_of g) w.txn_of.result) same is.txn_is in
-          let who : actor (event_of (names_of h) w.in-Some.row) ≡ u = txn_acts (names_of h) w.in-Some.row ∙ ap (txn_at (names_of h)) (sym w.txn_of.ensures) ∙ sym named in
+          let n = w.index-number.result.now in
+          let q = w.txn_of-txn.result in
+          let u = w.txn-name.result.name in
+          let within : q < length (txns_of h) = slice_get_within (txns_of h) q u w.txn-name.ensures.name in
+          let named : txn_at (names_of h) q ≡ u = get_or_from_slice_get (txns_of h) q u 0 w.txn-name.ensures.name in
+          let here : IsTxnAt h n u = subst (IsTxnAt h n) named (number_told h c.in_ok-numbers.numbers.items all_numbers q within n w.index-number.ensures) in
+          let who : actor (event_of (names_of h) w.in-Some.row) ≡ u = txn_acts (names_of h) w.in-Some.row ∙ ap (txn_at (names_of h)) (sym w.txn_of-txn.ensures) ∙ named in
           subst (λ (xs : List Bounds). EachTxn (λ t. IsKnownTo h t (p + 1)) h xs) (sym (ap (λ (v : Vec Bounds Global). v.items) w.all-is))
           (each_set h all n w.put_row.new.self (λ i t b. IsKnownTo h t p b) (λ i t b. IsKnownTo h t (p + 1) b) u here
           (λ i t b other apart known. known_on h wf t p (λ a. other (sym (access_actor h wf t p _ (sym w.in-Some.ensures.event) a) ∙ who)) b known)
           (λ b known at. w.put_row.ensures (subst (IsKnownTo h u p) (same_row h all n b w.index_mut.result.now at w.index_mut.ensures.value) known))
           c.loop-before.invariant)
       | in-Some+else-index w ↦
-          let n = w.reader_at-reader.result.number in
-          let u = w.reader_at-reader.result.txn in
-          let is = w.reader_at-reader.ensures in
-          let here : IsTxnAt h n u = subst (λ g. IsTxnAt g n u) same (subst (IsTxnAt c.args.ix.now n) (sym is.txn_is) is.numbered) in
-          let named : u ≡ txn_at (names_of h) w.txn_of.result = subst (λ g. u ≡ txn_at (names_of g) w.txn_of.result) same is.txn_is in
-          let who : actor (event_of (names_of h) w.in-Some.row) ≡ u = txn_acts (names_of h) w.in-Some.row ∙ ap (txn_at (names_of h)) (sym w.txn_of.ensures) ∙ sym named in
+          let n = w.index-number.result.now in
+          let q = w.txn_of-txn.result in
+          let u = txn_at (names_of h) q in
+          let within : q < length (txns_of h) = subst (λ m. m < length (txns_of h)) (sym w.txn_of-txn.ensures) (txn_within (names_of h) w.in-Some.row w.in-Some.ensures.within) in
+          let here : IsTxnAt h n u = number_told h c.in_ok-numbers.numbers.items all_numbers q within n w.index-number.ensures in
+          let who : actor (event_of (names_of h) w.in-Some.row) ≡ u = txn_acts (names_of h) w.in-Some.row ∙ ap (txn_at (names_of h)) (sym w.txn_of-txn.ensures) in
           subst (λ (xs : List Bounds). EachTxn (λ t. IsKnownTo h t (p + 1)) h xs) (sym (ap (λ (v : Vec Bounds Global). v.items) w.all-is))
           (λ i t at.
           let row = c.loop-before.invariant i t at in

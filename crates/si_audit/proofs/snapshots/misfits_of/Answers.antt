@@ -1,18 +1,20 @@
 -- Each bad read and each bad write is told to its transaction's row.
-use Rattle.std.proofs.Common.{◌≡◌, ◌∷◌, ◌++◌, inl, inr, [], ℕ, Option, true, eqb, get_or, set, take, refl, ap, sym, subst, ◌∙◌, rules, arith}
+use Rattle.std.proofs.Common.{◌≡◌, ◌∷◌, ◌++◌, ◌<◌, inl, inr, [], ℕ, Option, true, eqb, get_or, length, set, take, refl, ap, sym, subst, ◌∙◌, rules, arith}
 use Rattle.std.specs.Prelude.{◌↔◌, AllPairs, Contains, IsTrue}
 use Rattle.std.specs.Option.{option_or}
 use Rattle.std.proofs.lemmas.Bool.{eq-eqb, false≢true, not_from_true}
-use Rattle.std.proofs.lemmas.List.{get_or_default, set-set, take_all, take_more}
+use Rattle.std.proofs.lemmas.List.{get_or_default, length-set, set-set, take_all, take_more}
 use Rattle.std.proofs.lemmas.List.Elements.{Contains-get_or}
 use Rattle.sia_events.specs.Lists.{Precedes}
 use Rattle.sia_events.specs.declared.event.Event.TheVariants.{Write}
+use Rattle.sia_index.specs.Numbers.{IsTxnAt}
+use Rattle.sia_index.proofs.Shared.NumberedNames.{has_number}
 use Rattle.sia_parts.specs.declared.finding.BadRead.{BadRead}
 use Rattle.sia_parts.specs.declared.finding.BadWrite.{BadWrite}
 use Rattle.sia_parts.specs.Entries.{bad_read_rank}
 use Rattle.si_audit.specs.declared.snapshots.Bounds.{Bounds}
 use Rattle.si_audit.proofs.Shared.Marking.{AreTold, IsLost, earlier_reads, known_all, number_inside, takes_read, told_first, told_read, told_write, unknown, unknown_or_none}
-use Rattle.si_audit.proofs.snapshots.misfits_of.Goals.{then-b, else-b+then-b-ne0, else-b+else-b-ne0}
+use Rattle.si_audit.proofs.snapshots.misfits_of.Goals.{After-unwrap_or-number, After-unwrap_or-number-in-loop-b-2, then-b, else-b+then-b-ne0, else-b+else-b-ne0}
 use Rattle.si_audit.proofs.snapshots.misfits_of.Goals as goal
 
 abbrev none : BadRead
@@ -24,12 +26,25 @@ no_write = record { key = 0; first = 0; second = 0 }
 pub loop-b-init : goal.loop-b-init
 loop-b-init c ids are = told_first c.args.ix.now ids c.txns.result.now are c.txns.ensures c.in_ok-all.all.items (c.in_ok-all.ensures.items_if_clones_equal (λ y k. search rules))
 
-pub reader-number-requires : goal.reader-number-requires
-reader-number-requires c =
+-- the number of who read, and where it stands
+reader : (c : After-unwrap_or-number) → IsTxnAt c.args.ix.now c.unwrap_or-number.result (get_or c.deref-b-items.result.now c.loop-b.b-index none).txn
+reader c =
     let reads = c.deref-b-items.result.now in
-    let i = c.loop-b.b-index in
-    let bad = ((c.requires.bad_reads.each (get_or reads i none)).0 (subst (λ l. Contains l (get_or reads i none)) c.deref-b-items.ensures.value (Contains-get_or reads i none c.loop-b-test.true))).0 in
-    ((get_or reads i none).place, (bad.0.0, bad.0.1, bad.0.2))
+    let r : BadRead = get_or reads c.loop-b.b-index none in
+    let bad = ((c.requires.bad_reads.each r).0 (subst (λ l. Contains l r) c.deref-b-items.ensures.value (Contains-get_or reads c.loop-b.b-index none c.loop-b-test.true))).0 in
+    rw c.unwrap_or-number.ensures (has_number c.args.ix.now r.txn c.txn_number.result c.txn_number.ensures (r.place, (bad.0.0, bad.0.1, bad.0.2)))
+
+inside_reads : (c : After-unwrap_or-number) → c.unwrap_or-number.result < length c.loop-b.all.items
+inside_reads c = let at = reader c in let below = at.2 in let told = c.loop-b.invariant at.0 at.1 in omega (arith, told.long)
+
+pub index_mut-requires : goal.index_mut-requires
+index_mut-requires c = omega (arith, inside_reads (goal.at.index_mut-requires c).After-unwrap_or-number, c.loop-b.all.ok.0)
+
+pub index-requires : goal.index-requires
+index-requires c = omega (arith, length-set {A = Bounds}, inside_reads (goal.at.index-requires c).After-unwrap_or-number, c.loop-b.all.ok.0)
+
+pub index_mut-requires-in-loop-b : goal.index_mut-requires-in-loop-b
+index_mut-requires-in-loop-b c = omega (arith, length-set {A = Bounds}, inside_reads (goal.at.index_mut-requires-in-loop-b c).After-unwrap_or-number, c.loop-b.all.ok.0)
 
 pub loop-b-preserved : goal.loop-b-preserved
 loop-b-preserved c ids are =
@@ -37,10 +52,11 @@ loop-b-preserved c ids are =
     let reads = c.deref-b-items.result.now in
     let i = c.loop-b.b-index in
     let r : BadRead = get_or reads i none in
-    let n = c.reader-number.result.number in
+    let n = c.unwrap_or-number.result in
+    let number = reader (goal.at.loop-b-preserved c).After-unwrap_or-number in
     let all = c.loop-b.all.items in
     let told = c.loop-b.invariant ids are in
-    let inside = number_inside h ids are n r.txn c.reader-number.ensures.numbered in
+    let inside = number_inside h ids are n r.txn number in
     let a = c.index_mut.result.now in
     let b = c.index_mut-in-loop-b.result.now in
     let new : Bounds = record b { never = c.or.result } in
@@ -53,18 +69,25 @@ loop-b-preserved c ids are =
       | else-b+else-b-ne0 w ↦ ((λ e. absurd (false≢true (sym (w.is_lost-is ∙ not_from_true (eqb r.saw 0) (eq-eqb r.saw 0 w.if-b-ne0.false)) ∙ e))), (λ l. absurd (elim l [ inl own ↦ w.if-b.false own | inr gone ↦ gone.0 w.if-b-ne0.false ])))
     ] in
     let takes = takes_read h r c.if-b.is_lost lost all n (let long = told.long in omega arith) a b c.index.result.now c.index_mut.ensures.value c.index_mut-in-loop-b.ensures.value c.index.ensures c.or.result (c.or.ensures ∙ ap (λ (o : Option (ℕ × ℕ)). option_or c.index.result.now.never o) c.then_some-lost.ensures) in
-    let more = told_read h ids are n (take i reads) [] all r c.if-b.is_lost new c.reader-number.ensures.numbered (earlier_reads reads up i c.loop-b-test.true none) takes told in
+    let more = told_read h ids are n (take i reads) [] all r c.if-b.is_lost new number (earlier_reads reads up i c.loop-b-test.true none) takes told in
     subst (λ l. AreTold h ids l [] (set (set all n (record a { misfit = true })) n new)) (sym (take_more reads i none c.loop-b-test.true)) (subst (AreTold h ids (take i reads ++ r ∷ []) []) (sym (set-set all n (record a { misfit = true }) new)) more)
 
 pub loop-b-2-init : goal.loop-b-2-init
 loop-b-2-init c ids are = subst (λ l. AreTold c.args.ix.now ids l [] c.loop-b.all.items) (take_all c.loop-b.b-index c.deref-b-items.result.now c.loop-b-test.false ∙ c.deref-b-items.ensures.value) (c.loop-b.invariant ids are)
 
-pub reader-number-requires-in-loop-b-2 : goal.reader-number-requires-in-loop-b-2
-reader-number-requires-in-loop-b-2 c =
+-- the number of who wrote second, and where it stands
+second : (c : After-unwrap_or-number-in-loop-b-2) → IsTxnAt c.args.ix.now c.unwrap_or-number-in-loop-b-2.result (get_or c.deref-b-items-2.result.now c.loop-b-2.b-index no_write).second
+second c =
     let writes = c.deref-b-items-2.result.now in
     let w : BadWrite = get_or writes c.loop-b-2.b-index no_write in
     let bad = ((c.requires.bad_writes.each w).0 (subst (λ l. Contains l w) c.deref-b-items-2.ensures.value (Contains-get_or writes c.loop-b-2.b-index no_write c.loop-b-2-test.true))).0 in
-    (bad.1.0, (Write w.second w.key, bad.1.1, refl))
+    rw c.unwrap_or-number-in-loop-b-2.ensures (has_number c.args.ix.now w.second c.txn_number-in-loop-b-2.result c.txn_number-in-loop-b-2.ensures (bad.1.0, (Write w.second w.key, bad.1.1, refl)))
+
+pub index_mut-requires-in-loop-b-2 : goal.index_mut-requires-in-loop-b-2
+index_mut-requires-in-loop-b-2 c =
+    let at = second (goal.at.index_mut-requires-in-loop-b-2 c).After-unwrap_or-number-in-loop-b-2 in
+    let told = c.loop-b-2.invariant at.0 at.1 in
+    omega (arith, at.2, told.long, c.loop-b-2.all.ok.0)
 
 pub loop-b-2-preserved : goal.loop-b-2-preserved
 loop-b-2-preserved c ids are =
@@ -72,13 +95,14 @@ loop-b-2-preserved c ids are =
     let writes = c.deref-b-items-2.result.now in
     let i = c.loop-b-2.b-index in
     let w : BadWrite = get_or writes i no_write in
-    let n = c.reader-number-in-loop-b-2.result.number in
+    let n = c.unwrap_or-number-in-loop-b-2.result in
+    let number = second (goal.at.loop-b-2-preserved c).After-unwrap_or-number-in-loop-b-2 in
     let all = c.loop-b-2.all.items in
     let told = c.loop-b-2.invariant ids are in
-    let inside = number_inside h ids are n w.second c.reader-number-in-loop-b-2.ensures.numbered in
+    let inside = number_inside h ids are n w.second number in
     let a = c.index_mut-in-loop-b-2.result.now in
     let same : get_or all n unknown ≡ a = sym (c.index_mut-in-loop-b-2.ensures.value ∙ get_or_default all n a unknown (let long = told.long in omega arith)) in
-    let more = told_write h ids are n c.args.j.now.bad_reads.items (take i writes) all w c.reader-number-in-loop-b-2.ensures.numbered told in
+    let more = told_write h ids are n c.args.j.now.bad_reads.items (take i writes) all w number told in
     subst (λ l. AreTold h ids c.args.j.now.bad_reads.items l (set all n (record a { misfit = true }))) (sym (take_more writes i no_write c.loop-b-2-test.true))
     (subst (λ (x : Bounds). AreTold h ids c.args.j.now.bad_reads.items (take i writes ++ w ∷ []) (set all n (record x { misfit = true }))) same more)
 

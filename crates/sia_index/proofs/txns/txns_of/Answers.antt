@@ -8,43 +8,37 @@ use Rattle.sia_events.specs.Transactions.{HasEvent, IsCommitted}
 use Rattle.sia_index.specs.Lifetimes.{IsLifetime}
 use Rattle.sia_index.specs.declared.info.Lifetime.{Lifetime}
 use Rattle.sia_index.specs.Rows.{AreNamesOf, AreNumbered}
-use Rattle.sia_index.specs.Tables.{ArePlaces, IsSpan}
+use Rattle.sia_index.specs.Tables.{ArePlaces, IsTxnRow}
 use Rattle.sia_index.specs.declared.names.Numbered.{Numbered}
 use Rattle.sia_index.specs.declared.info.Fate.TheVariants.{Committed}
 use Rattle.sia_index.proofs.Answering.Table.{start_has_event}
 use Rattle.sia_index.proofs.TxnTables.Collected.{holds_nothing}
 use Rattle.sia_index.proofs.Shared.Fates.{ended_has_event}
 use Rattle.sia_index.proofs.Shared.LogNames.{txns_stand_once, event_has_number}
-use Rattle.sia_index.proofs.Shared.NumberedNames.{IsRowOf, none_numbered, numbered_listed, numbered_more, numbers_are, rows_apart, rows_named, rows_within, same_some}
+use Rattle.sia_index.proofs.Shared.NumberedNames.{IsRowOf, names_listed, none_numbered, numbered_listed, numbered_more, numbers_are, rows_apart, rows_named, rows_within, same_some}
 use Rattle.sia_index.proofs.TxnTables.KnownTxns.{StandBeside, beside_more, numbers_of_names, chosen_listed, chosen_more, chosen_same, names_more, none_chosen, not_committed, stands_beside}
 use Rattle.sia_index.proofs.txns.txns_of.Goals.{After-loop-row, After-sort, in-Committed+in_ok-push-3+in_ok-push-4+in_ok-push-5, in_default}
 use Rattle.sia_index.proofs.txns.txns_of.Goals as goal
 
 pub loop-number-init : goal.loop-number-init
-loop-number-init c = rw (c.in_ok-rows.ensures.items, c.in_ok-spans.ensures.items) (record {
+loop-number-init c = rw (c.in_ok-rows.ensures.items, c.in_ok-known.ensures.items) (record {
   rows = holds_nothing (IsRowOf (HasEvent c.args.log.now) (txns_of c.args.log.now));
-  spans = (refl, λ i d below. absurd (omega arith));
+  known = (refl, λ i d below. absurd (omega arith));
 })
 
 pub loop-number-preserved : goal.loop-number-preserved
 loop-number-preserved c =
     let h = c.args.log.now in
     let so = c.loop-number.invariant in
-    let t = c.txn-known.result.name in
-    let is = c.txn-known.ensures in
+    let t = c.txn-row.result.name in
+    let is = c.txn-row.ensures in
     rw (c.in_ok-push.ensures.items, c.in_ok-push-2.ensures.items) (record {
-      rows = numbered_more (HasEvent h) (txns_of h) c.loop-number.number t c.loop-number.rows.items so.rows is.name (start_has_event h t c.txn-known.result.start is.starts);
-      spans = stands_beside (IsSpan h) c.loop-number.number (txns_of h) c.loop-number.spans.items _ so.spans t (get_or_from_slice_get (txns_of h) c.loop-number.number t 0 is.name) (is.starts, is.ends);
+      rows = numbered_more (HasEvent h) (txns_of h) c.loop-number.number t c.loop-number.rows.items so.rows is.name (start_has_event h t c.txn-row.result.start is.starts);
+      known = stands_beside (IsTxnRow h) c.loop-number.number (txns_of h) c.loop-number.known.items _ so.known t (get_or_from_slice_get (txns_of h) c.loop-number.number t 0 is.name) (refl, is.starts, is.ends);
     })
 
 numbered : (c : After-sort) → AreNumbered (HasEvent c.args.log.now) (txns_of c.args.log.now) c.sort.new.list.items
 numbered c = numbered_listed _ _ c.loop-number.number _ _ (omega (arith, c.txn_count-count.ensures)) c.loop-number.invariant.rows c.sort.ensures.sorted (λ x. (c.sort.ensures.same x).1) (λ x. (c.sort.ensures.same x).0)
-
-pub places_of-requires-clause-apart : goal.places_of-requires-clause-apart
-places_of-requires-clause-apart c = rw c.deref-2.ensures.value (rows_apart (HasEvent c.args.log.now) _ _ (numbered (goal.at.places_of-requires-clause-apart c).After-sort))
-
-pub places_of-requires-clause-within : goal.places_of-requires-clause-within
-places_of-requires-clause-within c = rw (c.deref-2.ensures.value, c.txn_count-count.ensures) (rows_within (HasEvent c.args.log.now) _ _ (numbered (goal.at.places_of-requires-clause-within c).After-sort))
 
 -- the same of the rows that are gone through
 rows_of : (c : After-sort) (rows : List (Numbered ℕ)) → rows ≡ c.sort.new.list.items → AreNumbered (HasEvent c.args.log.now) (txns_of c.args.log.now) rows
@@ -93,23 +87,22 @@ ended c n =
     let end : c.loop-row.row-index ≡ length c.deref-row-items.result.now = (let last = c.loop-row-test.false in let most = c.loop-row.auto in omega arith) in
     chosen_listed (HasEvent h) (IsCommitted h) (txns_of h) c.deref-row-items.result.now n (λ t done. ended_has_event h t Committed done) c.loop-row.row-index end _ c.loop-row.invariant.chosen
 
-pub places_of-requires-2-clause-apart : goal.places_of-requires-2-clause-apart
-places_of-requires-2-clause-apart c = rw c.deref-3.ensures.value (rows_apart (IsCommitted c.args.log.now) _ _ (ended (goal.at.places_of-requires-2-clause-apart c).After-loop-row (rows_of (goal.at.places_of-requires-2-clause-apart c).After-sort c.deref-row-items.result.now c.deref-row-items.ensures.value)))
+pub places_of-requires-clause-apart : goal.places_of-requires-clause-apart
+places_of-requires-clause-apart c = rw c.deref-2.ensures.value (rows_apart (IsCommitted c.args.log.now) _ _ (ended (goal.at.places_of-requires-clause-apart c).After-loop-row (rows_of (goal.at.places_of-requires-clause-apart c).After-sort c.deref-row-items.result.now c.deref-row-items.ensures.value)))
 
-pub places_of-requires-2-clause-within : goal.places_of-requires-2-clause-within
-places_of-requires-2-clause-within c = rw (c.deref-3.ensures.value, c.txn_count-count.ensures) (rows_within (IsCommitted c.args.log.now) _ _ (ended (goal.at.places_of-requires-2-clause-within c).After-loop-row (rows_of (goal.at.places_of-requires-2-clause-within c).After-sort c.deref-row-items.result.now c.deref-row-items.ensures.value)))
+pub places_of-requires-clause-within : goal.places_of-requires-clause-within
+places_of-requires-clause-within c = rw (c.deref-2.ensures.value, c.txn_count-count.ensures) (rows_within (IsCommitted c.args.log.now) _ _ (ended (goal.at.places_of-requires-clause-within c).After-loop-row (rows_of (goal.at.places_of-requires-clause-within c).After-sort c.deref-row-items.result.now c.deref-row-items.ensures.value)))
 
 pub returns : goal.returns
 returns c =
     let h = c.args.log.now in
-    let numbers : ArePlaces (λ (row : Numbered ℕ). row.number) c.sort.new.list.items (length (txns_of h)) c.in_ok-numbers.numbers.items = rw (c.deref-2.ensures.value, c.txn_count-count.ensures) at c.in_ok-numbers.ensures in
-    let committed : ArePlaces (λ (row : Numbered ℕ). row.number) c.loop-row.ended.items (length (txns_of h)) c.in_ok-committed_numbers.committed_numbers.items = rw (c.deref-3.ensures.value, c.txn_count-count.ensures) at c.in_ok-committed_numbers.ensures in
+    let committed : ArePlaces (λ (row : Numbered ℕ). row.number) c.loop-row.ended.items (length (txns_of h)) c.in_ok-committed_numbers.committed_numbers.items = rw (c.deref-2.ensures.value, c.txn_count-count.ensures) at c.in_ok-committed_numbers.ensures in
     record {
-      all = numbers_are (HasEvent h) (txns_of h) c.sort.new.list.items (numbered (goal.at.returns c).After-sort) (txns_stand_once h) (event_has_number h) _ (rw c.deref.ensures.value at c.in_ok-ids.ensures.names) _ numbers;
+      all = names_listed (HasEvent h) (txns_of h) c.sort.new.list.items (numbered (goal.at.returns c).After-sort) (txns_stand_once h) (event_has_number h) _ (rw c.deref.ensures.value at c.in_ok-ids.ensures.names);
       order = numbers_of_names (txns_of h) c.sort.new.list.items c.in_ok-ids.ids.items c.in_ok-ids.order.items (rows_named (HasEvent h) _ _ (numbered (goal.at.returns c).After-sort)) (rw c.deref.ensures.value at c.in_ok-ids.ensures.names) (rw c.deref.ensures.value at c.in_ok-ids.ensures.numbers);
-      spans = record {
-        count = c.loop-number.invariant.spans.0 ∙ (let last = c.loop-number-test.false in let most = c.loop-number.auto in omega (arith, c.txn_count-count.ensures));
-        right = λ i d below. c.loop-number.invariant.spans.1 i d (omega (arith, c.loop-number-test.false, c.txn_count-count.ensures));
+      known = record {
+        count = c.loop-number.invariant.known.0 ∙ (let last = c.loop-number-test.false in let most = c.loop-number.auto in omega (arith, c.txn_count-count.ensures));
+        right = λ i d below. c.loop-number.invariant.known.1 i d (omega (arith, c.loop-number-test.false, c.txn_count-count.ensures));
       };
       committed = numbers_are (IsCommitted h) (txns_of h) c.loop-row.ended.items (ended (goal.at.returns c).After-loop-row (rows_of (goal.at.returns c).After-sort c.deref-row-items.result.now c.deref-row-items.ensures.value)) (txns_stand_once h) (λ t done. event_has_number h t (ended_has_event h t Committed done)) _ c.loop-row.invariant.named _ committed;
       lifetimes = record { long = c.loop-row.invariant.beside.0; each = λ i d below. c.loop-row.invariant.beside.1 i d below };

@@ -33,7 +33,7 @@ macro_rules! made {
     };
 }
 
-/// A transaction, its number, a place, where it starts, and whether it wrote.
+/// A transaction, its number in the log, a place, where it starts, and whether it wrote.
 macro_rules! reader {
     ($txn:expr, $number:expr, $place:expr, $start:expr, $has_written:expr) => {
         Reader {
@@ -116,7 +116,7 @@ pub const HISTORIES: &[Answers<'static>] = &[
         ],
         readers: &[
             (reader!(3, 2, 7, 5, false), &[Due::At(2, 1)]),
-            (reader!(2, 1, 2, 0, true), &[Due::At(2, 0)]),
+            (reader!(2, 0, 2, 0, true), &[Due::At(2, 0)]),
         ],
         ..NONE
     },
@@ -280,7 +280,9 @@ pub struct Numbers<'a> {
     pub text: &'a [u8],
     /// The committed transactions, with their starts and commits.
     pub committed: &'a [(TxnId, u32, u32)],
-    /// By the log's transaction, its number among these.
+    /// By the log's transaction, its number among all.
+    pub txns: &'a [usize],
+    /// By the log's transaction, its number among the committed ones.
     pub numbers: &'a [Option<u32>],
     /// By the log's key, its number among the written ones.
     pub keys: &'a [Option<u32>],
@@ -307,6 +309,7 @@ macro_rules! write_at {
 pub const NUMBERED: &Numbers<'static> = &Numbers {
     text: b"w9[7] r4[5:0] w2[3] c9 w2[7] w5[1] c2 w5[7] a5 r4[7:2] w6[3]",
     committed: &[(2, 2, 7), (9, 0, 4)],
+    txns: &[4, 1, 0, 2, 3],
     numbers: &[Some(1), None, Some(0), None, None],
     keys: &[Some(2), None, Some(1), Some(0)],
     writes: &[
@@ -318,11 +321,11 @@ pub const NUMBERED: &Numbers<'static> = &Numbers {
         write_at!(1, None),
     ],
     readers: &[
-        reader!(9, 4, 10, 0, true),
+        reader!(9, 0, 10, 0, true),
         reader!(4, 1, 10, 1, false),
-        reader!(2, 0, 10, 2, true),
-        reader!(5, 2, 10, 5, true),
-        reader!(6, 3, 10, 10, true),
+        reader!(2, 2, 10, 2, true),
+        reader!(5, 3, 10, 5, true),
+        reader!(6, 4, 10, 10, true),
     ],
     first_positions: &[0, 1, 3],
     asked: &[
@@ -374,7 +377,7 @@ pub const OF_MANY: &[(Reader, &[Due])] = &[
     ),
     (reader!(3, 2, 503, 502, true), &[Due::Own(0, 999, None)]),
     (
-        reader!(1, 0, 303, 2, true),
+        reader!(1, 1, 303, 2, true),
         &[Due::Own(299, 999, Some(299)), Due::Own(300, 999, None)],
     ),
 ];

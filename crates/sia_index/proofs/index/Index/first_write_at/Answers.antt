@@ -4,18 +4,15 @@ use Rattle.std.proofs.lemmas.Bool.{ltb-false, ltb-true}
 use Rattle.std.proofs.lemmas.List.{get_or_default}
 use Rattle.sia_index.specs.declared.txns.WriteRow.{WriteRow}
 use Rattle.sia_index.specs.Rows.{AreWritesOf}
-use Rattle.sia_index.proofs.Answering.OwnRows.{first_at, its_order, none_at, own_rows}
+use Rattle.sia_index.proofs.Answering.OwnRows.{first_at, none_at, own_rows}
 use Rattle.sia_index.proofs.index.Index.first_write_at.Goals.{After-at-own}
 use Rattle.sia_index.proofs.index.Index.first_write_at.Goals as goal
 
-pub index-requires : goal.index-requires
-index-requires c = omega (arith, (its_order _ _ c.self.view_is _ _ _ _ c.self.invariant _ _ c.requires).0, c.self.inside.txns.order.ok)
-
 pub at-own-requires : goal.at-own-requires
-at-own-requires c = (own_rows _ _ c.self.view_is _ _ _ _ c.self.invariant _ _ ((its_order _ _ c.self.view_is _ _ _ _ c.self.invariant _ _ c.requires).1 c.index.result.now c.index.ensures)).0
+at-own-requires c = (own_rows _ _ c.self.view_is _ _ _ _ c.self.invariant _ _ c.requires).0
 
-own : (c : After-at-own) → AreWritesOf c.args.self.now c.args.t c.index.result.now c.at-own.result.now
-own c = rw c.at-own.ensures ((own_rows _ _ c.self.view_is _ _ _ _ c.self.invariant _ _ ((its_order _ _ c.self.view_is _ _ _ _ c.self.invariant _ _ c.requires).1 c.index.result.now c.index.ensures)).1)
+own : (c : After-at-own) → AreWritesOf c.args.self.now c.args.t c.args.txn c.at-own.result.now
+own c = rw c.at-own.ensures ((own_rows _ _ c.self.view_is _ _ _ _ c.self.invariant _ _ c.requires).1)
 
 pub place_from-requires : goal.place_from-requires
 place_from-requires c = (own (goal.at.place_from-requires c).After-at-own).keys_rise

@@ -2,21 +2,18 @@
 use Rattle.std.proofs.Common.{arith, rules}
 use Rattle.std.specs.Prelude.{slice_range}
 use Rattle.sia_index.specs.Rows.{AreWritesOf}
-use Rattle.sia_index.proofs.Answering.OwnRows.{its_order, none_own, own_rows, some_own}
+use Rattle.sia_index.proofs.Answering.OwnRows.{none_own, own_rows, some_own}
 use Rattle.sia_index.proofs.index.Index.next_own.Goals.{After-span-from}
 use Rattle.sia_index.proofs.index.Index.next_own.Goals as goal
 
 pub returns-then-not-reader : goal.returns-then-not-reader
 returns-then-not-reader c k low high before = c.requires.wrote_none (search rules) k (before.0, before.2)
 
-pub index-txn-requires : goal.index-txn-requires
-index-txn-requires c = omega (arith, (its_order _ _ c.self.view_is _ _ _ _ c.self.invariant _ _ c.requires.numbered).0, c.self.inside.txns.order.ok)
-
 pub span-from-requires : goal.span-from-requires
-span-from-requires c = (own_rows _ _ c.self.view_is _ _ _ _ c.self.invariant _ _ ((its_order _ _ c.self.view_is _ _ _ _ c.self.invariant _ _ c.requires.numbered).1 c.index-txn.result.now c.index-txn.ensures)).0
+span-from-requires c = (own_rows _ _ c.self.view_is _ _ _ _ c.self.invariant _ _ c.requires.numbered).0
 
-own : (c : After-span-from) → AreWritesOf c.args.self.now c.args.reader.txn c.index-txn.result.now (slice_range c.rows-rows.result.now c.span-from.result.0 c.span-from.result.1)
-own c = rw (c.rows-rows.ensures, c.span-from.ensures.own) ((own_rows _ _ c.self.view_is _ _ _ _ c.self.invariant _ _ ((its_order _ _ c.self.view_is _ _ _ _ c.self.invariant _ _ c.requires.numbered).1 c.index-txn.result.now c.index-txn.ensures)).1)
+own : (c : After-span-from) → AreWritesOf c.args.self.now c.args.reader.txn c.args.reader.number (slice_range c.rows-rows.result.now c.span-from.result.0 c.span-from.result.1)
+own c = rw (c.rows-rows.ensures, c.span-from.ensures.own) ((own_rows _ _ c.self.view_is _ _ _ _ c.self.invariant _ _ c.requires.numbered).1)
 
 pub place_from-requires : goal.place_from-requires
 place_from-requires c = (own (goal.at.place_from-requires c).After-span-from).keys_rise
