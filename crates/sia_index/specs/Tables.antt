@@ -1,5 +1,5 @@
 -- What the tables of an index hold of its history.
-use Rattle.std.specs.Prelude.{◌≡◌, ◌<◌, ◌≤◌, ◌+◌, ℕ, Option, Some, None, MatchOption, List, [], length, slice_get, slice_index, slice_index_or}
+use Rattle.std.specs.Prelude.{◌≡◌, ◌<◌, ◌≤◌, ◌+◌, ℕ, Some, List, [], length, slice_get, slice_index, slice_index_or}
 use Rattle.sia_events.specs.declared.event.Event.{Event}
 use Rattle.sia_events.specs.declared.log.TxnRow.{TxnRow}
 use Rattle.sia_events.specs.Lists.{ListsAscending}
@@ -17,19 +17,21 @@ use Rattle.sia_index.specs.declared.txns.Txns.{Txns}
 use Rattle.sia_index.specs.declared.versions.Versions.{Versions}
 use Rattle.sia_index.specs.declared.txns.Writes.{Writes}
 
--- for each number below the count the place of the row that has it, if there is one
-pub record ArePlaces {A : Type 0} (number : A → ℕ) (rows : List A) (count : ℕ) (places : List (Option ℕ)) : Type 0 where
+-- for each number below the count the place of the row that has it, or one behind all rows
+pub record ArePlaces {A : Type 0} (number : A → ℕ) (rows : List A) (count : ℕ) (places : List ℕ) : Type 0 where
   pub long : length places ≡ count
   pub few : length rows ≤ count
-  pub each : (i : ℕ) (d : A) → i < length rows → slice_index_or places (number (slice_index_or rows i d)) None ≡ Some i
-  pub only : (q i : ℕ) → slice_index_or places q None ≡ Some i → (i < length rows) × ((d : A) → number (slice_index_or rows i d) ≡ q)
+  pub each : (i : ℕ) (d : A) → i < length rows → slice_index places (number (slice_index_or rows i d)) ≡ i
+  pub only : (q : ℕ) (d : A) → q < count → slice_index places q < length rows → number (slice_index_or rows (slice_index places q) d) ≡ q
 
--- the listed names are those in a log that have K, ascending, and each number there has the place of its name among them
-pub record AreNumbers (K : ℕ → Type 0) (names listed : List ℕ) (numbers : List (Option ℕ)) : Type 0 where
+-- the listed names are those in a log that have K, ascending, and each number there has the place of its name among them, or one
+-- behind them all
+pub record AreNumbers (K : ℕ → Type 0) (names listed numbers : List ℕ) : Type 0 where
   pub listed_are : ListsAscending K listed
   pub long : length numbers ≡ length names
   pub few : length listed ≤ length names
-  pub each : (q : ℕ) → q < length names → MatchOption (slice_index_or numbers q None) (¬ K (slice_index names q)) (λ i. (i < length listed) × (slice_index listed i ≡ slice_index names q))
+  pub each : (q : ℕ) → q < length names → slice_index numbers q < length listed → slice_index listed (slice_index numbers q) ≡ slice_index names q
+  pub none : (q : ℕ) → q < length names → length listed ≤ slice_index numbers q → ¬ K (slice_index names q)
 
 -- the row is of t: where it starts, and how it ended
 abbrev pub IsTxnRow : List Event → ℕ → TxnRow → Type 0

@@ -152,7 +152,8 @@ impl Index {
         requires { txn < length (txns_of self.now) }
         ensures { (i : ℕ) → (result ≡ Some i) ↔ IsCommittedAt self.now i (txn_at (names_of self.now) txn) }
     {
-        self.txns.committed_numbers[txn as usize]
+        let number = self.txns.committed_numbers[txn as usize];
+        ((number as usize) < self.txns.committed.len()).then_some(number)
     }
 
     /// The versions that committed transactions made of a key, by commit. Version 0 isn't among them.

@@ -33,28 +33,24 @@ impl By<Numbered<TxnId>> for ByName {
     }
 }
 
-/// For each number below the count the place of the row that has it, if there is one.
-pub fn places_of<N>(
-    alloc: Global,
-    count: u32,
-    rows: &[Numbered<N>],
-) -> Result<Vec<Option<u32>>, AllocError>
+/// For each number below the count the place of the row that has it, or the greatest number where none has it.
+pub fn places_of<N>(alloc: Global, count: u32, rows: &[Numbered<N>]) -> Result<Vec<u32>, AllocError>
     requires apart { AllPairs (λ x y. x.number ≢ y.number) rows.now }
     requires within { All (λ row. row.number < count) rows.now }
     ensures { IfOk result (λ places. ArePlaces (λ row. row.number) rows.now count places.items) }
 {
-    let mut places = vec![in alloc; None; count as usize]?;
+    let mut places = vec![in alloc; u32::MAX; count as usize]?;
     for (i, row) in rows.iter().enumerate() {
-        places[row.number as usize] = Some(i as u32);
+        places[row.number as usize] = i as u32;
     }
     Ok(places)
 }
 
-/// Every written key once, ascending, and for each number in the log the place of the key among these.
+/// Every written key once, ascending, and for each number in the log the place of the key among these, or one behind them all.
 #[derive(Drop)]
 pub struct Keys {
     pub keys: Vec<Key>,
-    pub numbers: Vec<Option<u32>>,
+    pub numbers: Vec<u32>,
 }
 
 /// The written keys of the log.

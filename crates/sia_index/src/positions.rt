@@ -21,7 +21,8 @@ impl Index {
         ensures { MatchOption result ((t : ℕ) → ¬ Wrote self.now t (key_at (names_of self.now) key))
             (λ i. IsKeyAt self.now i (key_at (names_of self.now) key)) }
     {
-        self.keys.numbers[key as usize]
+        let number = self.keys.numbers[key as usize];
+        ((number as usize) < self.keys.keys.len()).then_some(number)
     }
 
     /// What the log's write made: the number of its key, and the position of its version.

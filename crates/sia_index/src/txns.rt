@@ -13,7 +13,7 @@ use sia_events::{Key, Log, Row, TxnEnd, TxnId, TxnRow};
 use std::alloc::{AllocError, Global};
 
 /// Every transaction once, ascending, and every committed one, with its lifetime beside it. `order` has for each place among all the
-/// number in the log, and `committed_numbers` for each number there the place among the committed ones, if there is one.
+/// number in the log, and `committed_numbers` for each number there the place among the committed ones, or one behind them all.
 #[derive(Drop)]
 pub struct Txns {
     pub ids: Vec<TxnId>,
@@ -22,7 +22,7 @@ pub struct Txns {
     pub known: Vec<TxnRow>,
     pub committed: Vec<TxnId>,
     pub lifetimes: Vec<Lifetime>,
-    pub committed_numbers: Vec<Option<u32>>,
+    pub committed_numbers: Vec<u32>,
 }
 
 /// The transactions of the log.

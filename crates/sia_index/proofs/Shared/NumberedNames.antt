@@ -1,6 +1,7 @@
 -- Names by their numbers in a log, as loops collect them and as tables hold them.
-use Rattle.std.proofs.Common.{◌≡◌, ◌≢◌, ◌↔◌, inl, inr, ℕ, ◌+◌, ◌<◌, List, [], ◌∷◌, ◌++◌, length, Option, Some, None, unwrap_or, refl, sym, subst, ◌∙◌, ap, arith, slice_get}
+use Rattle.std.proofs.Common.{◌≡◌, ◌≢◌, ◌↔◌, inl, inr, ℕ, ◌+◌, ◌<◌, List, [], ◌∷◌, ◌++◌, length, ltb, Bool, true, false, Option, Some, None, unwrap_or, refl, sym, subst, ◌∙◌, ap, arith, slice_get}
 use Rattle.std.specs.Prelude.{All, AllPairs, Contains, MatchOption, slice_index, slice_index_or}
+use Rattle.std.specs.Bool.{then_some}
 use Rattle.std.specs.List.Sorted.{IsStrictlySortedBy}
 use Rattle.std.specs.Ordering.{nat_cmp, ordering_then}
 use Rattle.std.proofs.lemmas.List.{get_or_default}
@@ -8,17 +9,17 @@ use Rattle.std.proofs.lemmas.List.Elements.{All-contains, Contains-get_or}
 use Rattle.std.proofs.lemmas.Option.{slice_get_within, get_or_from_slice_get, slice_get-get_or}
 use Rattle.sia_events.specs.declared.event.Event.{Event}
 use Rattle.sia_events.specs.Lists.{ListsAscending, Precedes}
-use Rattle.sia_events.specs.Numbering.{keys_of, txns_of, writes_of}
+use Rattle.sia_events.specs.Numbering.{keys_of, writes_of}
 use Rattle.sia_events.specs.Transactions.{HasEvent, Wrote}
 use Rattle.sia_index.specs.Numbers.{IsTxnAt}
 use Rattle.sia_events.proofs.Worked.OneList.{one_list_by}
 use Rattle.sia_index.specs.Info.{IsKeyAt}
-use Rattle.std.proofs.lemmas.Bool.{cases_lt}
+use Rattle.std.proofs.lemmas.Bool.{cases_lt, ltb-false, ltb-true}
 use Rattle.sia_index.specs.declared.names.Numbered.{Numbered}
 use Rattle.sia_index.specs.Rows.{AreNumbered, AreNamesOf, IsWritten}
 use Rattle.sia_index.specs.Tables.{ArePlaces, AreNumbers}
 use Rattle.sia_index.proofs.TxnTables.Collected.{HoldsBelow, holds_one, holds_again, collected}
-use Rattle.sia_index.proofs.Shared.LogNames.{StandOnce, keys_stand_once, numbered_has_event, write_has_number, numbered_wrote}
+use Rattle.sia_index.proofs.Shared.LogNames.{StandOnce, keys_stand_once, write_has_number, numbered_wrote}
 use Rattle.sia_index.proofs.Shared.Ordered.{ascends, precedes_last, precedes_then}
 
 abbrev pub none_numbered : Numbered ℕ
@@ -145,34 +146,30 @@ module _ (K : ℕ → Type 0) (names : List ℕ) (rows : List (Numbered ℕ)) (a
       );
     }
 
-    module _ (numbers : List (Option ℕ)) (places : ArePlaces (λ (row : Numbered ℕ). row.number) rows (length names) numbers) where
-      found : (q : ℕ) (place : Option ℕ) → q < length names → slice_index_or numbers q None ≡ place → MatchOption place (¬ K (slice_index names q)) (λ i. (i < length listed) × (slice_index listed i ≡ slice_index names q))
-      found q None inside is = λ has.
+    pub numbers_are : (numbers : List ℕ) → ArePlaces (λ (row : Numbered ℕ). row.number) rows (length names) numbers → AreNumbers K names listed numbers
+    numbers_are numbers places = record {
+      listed_are = names_listed;
+      long = places.long;
+      few = let few = places.few in omega (arith, named.0);
+      each = λ q inside found.
+          let i = slice_index numbers q in
+          let below : i < length rows = omega (arith, named.0) in
+          let name : slice_get names q ≡ Some (slice_index_or rows i none_numbered).name = subst (λ m. slice_get names m ≡ Some (slice_index_or rows i none_numbered).name) (places.only q none_numbered inside below) (row_at i none_numbered below) in
+          name_of i 0 below ∙ sym (get_or_from_slice_get names q (slice_index_or rows i none_numbered).name 0 name);
+      none = λ q inside behind has.
           let row : Numbered ℕ = record { name = slice_index names q; number = q } in
           let c = row_of (slice_index names q) q (slice_get-get_or names q 0 inside) has in
-          let at : slice_index_or numbers q None ≡ Some c.0 = ap (λ (r : Numbered ℕ). slice_index_or numbers r.number None) (sym c.2) ∙ places.each c.0 row c.1 in
-          let e : None ≡ Some c.0 = sym is ∙ at in
-          absurd cc
-      found q (Some i) inside is =
-          let at = places.only q i is in
-          let below : i < length rows = at.0 in
-          let name : slice_get names q ≡ Some (slice_index_or rows i none_numbered).name = subst (λ m. slice_get names m ≡ Some (slice_index_or rows i none_numbered).name) (at.1 none_numbered) (row_at i none_numbered below) in
-          (omega (arith, named.0), name_of i 0 below ∙ sym (get_or_from_slice_get names q (slice_index_or rows i none_numbered).name 0 name))
-
-      pub numbers_are : AreNumbers K names listed numbers
-      numbers_are = record {
-        listed_are = names_listed;
-        long = places.long;
-        few = let few = places.few in omega (arith, named.0);
-        each = λ q inside. found q (slice_index_or numbers q None) inside refl;
-      }
+          let at : slice_index numbers q ≡ c.0 = ap (λ (r : Numbered ℕ). slice_index numbers r.number) (sym c.2) ∙ places.each c.0 row c.1 in
+          let below : c.0 < length rows = c.1 in
+          absurd (omega (arith, named.0));
+    }
 
 -- what has K has a number among the names that are listed
-pub number_there : (K : ℕ → Type 0) (names listed : List ℕ) (numbers : List (Option ℕ)) → AreNumbers K names listed numbers → (q : ℕ) → q < length names → (place : Option ℕ) → place ≡ slice_index_or numbers q None → K (slice_index names q) → (unwrap_or place 0 < length listed) × (slice_index listed (unwrap_or place 0) ≡ slice_index names q)
-number_there K names listed numbers are q inside place is has = of_place place (subst (λ o. MatchOption o (¬ K (slice_index names q)) (λ i. (i < length listed) × (slice_index listed i ≡ slice_index names q))) (sym is) (are.each q inside)) where
-  of_place : (o : Option ℕ) → MatchOption o (¬ K (slice_index names q)) (λ i. (i < length listed) × (slice_index listed i ≡ slice_index names q)) → (unwrap_or o 0 < length listed) × (slice_index listed (unwrap_or o 0) ≡ slice_index names q)
-  of_place None none = absurd (none has)
-  of_place (Some i) found = found
+pub number_there : (K : ℕ → Type 0) (names listed numbers : List ℕ) → AreNumbers K names listed numbers → (q : ℕ) → q < length names → (n : ℕ) → n ≡ slice_index numbers q → K (slice_index names q) → (n < length listed) × (slice_index listed n ≡ slice_index names q)
+number_there K names listed numbers are q inside n is has = subst (λ m. (m < length listed) × (slice_index listed m ≡ slice_index names q)) (sym is) (elim (cases_lt (slice_index numbers q) (length listed)) [
+  | inl below ↦ (below, are.each q inside below)
+  | inr behind ↦ absurd (are.none q inside behind has)
+])
 
 -- a listed name has one number
 pub its_number : (K : ℕ → Type 0) (listed : List ℕ) → ListsAscending K listed → (i t : ℕ) → (xs : List ℕ) × ListsAscending K xs × (i < length xs) × (slice_index xs i ≡ t) → (i < length listed) × (slice_index listed i ≡ t)
@@ -184,11 +181,18 @@ pub found_number : (K : ℕ → Type 0) (listed : List ℕ) → ListsAscending K
 found_number K listed are t None missing = λ has. All-contains (λ x. x ≢ t) listed t missing ((are.each t).1 has) refl
 found_number K listed are t (Some i) at = (listed, are, at.0, at.1 0)
 
-module _ (K : ℕ → Type 0) (names listed : List ℕ) (numbers : List (Option ℕ)) (are : AreNumbers K names listed numbers) (q : ℕ) (inside : q < length names) where
-  number_is : (place : Option ℕ) → place ≡ slice_index_or numbers q None → MatchOption place (¬ K (slice_index names q)) (λ i. (i < length listed) × (slice_index listed i ≡ slice_index names q))
-  number_is place is = subst (λ o. MatchOption o (¬ K (slice_index names q)) (λ i. (i < length listed) × (slice_index listed i ≡ slice_index names q))) (sym is) (are.each q inside)
+-- the place, if it is below the count
+abbrev pub place_below : ℕ → ℕ → Option ℕ
+place_below count place = then_some (ltb place count) place
 
-  pub number_exactly : (place : Option ℕ) → place ≡ slice_index_or numbers q None → (i : ℕ) → (place ≡ Some i) ↔ ((xs : List ℕ) × ListsAscending K xs × (i < length xs) × (slice_index xs i ≡ slice_index names q))
+module _ (K : ℕ → Type 0) (names listed numbers : List ℕ) (are : AreNumbers K names listed numbers) (q : ℕ) (inside : q < length names) where
+  number_is : (place : Option ℕ) → place ≡ place_below (length listed) (slice_index numbers q) → MatchOption place (¬ K (slice_index names q)) (λ i. (i < length listed) × (slice_index listed i ≡ slice_index names q))
+  number_is place is = subst (λ o. MatchOption o (¬ K (slice_index names q)) (λ i. (i < length listed) × (slice_index listed i ≡ slice_index names q))) (sym is) (by_test (ltb (slice_index numbers q) (length listed)) refl) where
+    by_test : (b : Bool) → ltb (slice_index numbers q) (length listed) ≡ b → MatchOption (then_some b (slice_index numbers q)) (¬ K (slice_index names q)) (λ i. (i < length listed) × (slice_index listed i ≡ slice_index names q))
+    by_test true less = let below = ltb-true (slice_index numbers q) (length listed) less in (below, are.each q inside below)
+    by_test false more = are.none q inside (ltb-false (slice_index numbers q) (length listed) more)
+
+  pub number_exactly : (place : Option ℕ) → place ≡ place_below (length listed) (slice_index numbers q) → (i : ℕ) → (place ≡ Some i) ↔ ((xs : List ℕ) × ListsAscending K xs × (i < length xs) × (slice_index xs i ≡ slice_index names q))
   number_exactly place is i = (
     (λ e. let at = subst (λ o. MatchOption o (¬ K (slice_index names q)) (λ j. (j < length listed) × (slice_index listed j ≡ slice_index names q))) e (number_is place is) in (listed, are.listed_are, at.0, at.1)),
     (λ at. let own = its_number K listed are.listed_are i (slice_index names q) at in of_place place (number_is place is) own),
@@ -198,13 +202,13 @@ module _ (K : ℕ → Type 0) (names listed : List ℕ) (numbers : List (Option 
       of_place None none own = absurd (none ((are.listed_are.each (slice_index names q)).0 (i, own.0, get_or_default listed i (slice_index names q) 0 own.0 ∙ own.1)))
       of_place (Some j) found own = ap Some (one_place listed (ascends (λ (x : ℕ). x) K listed are.listed_are) j i found.0 own.0 (found.1 ∙ sym own.1))
 
-  pub number_told : (place : Option ℕ) → place ≡ slice_index_or numbers q None → MatchOption place (¬ K (slice_index names q)) (λ i. (xs : List ℕ) × ListsAscending K xs × (i < length xs) × (slice_index xs i ≡ slice_index names q))
+  pub number_told : (place : Option ℕ) → place ≡ place_below (length listed) (slice_index numbers q) → MatchOption place (¬ K (slice_index names q)) (λ i. (xs : List ℕ) × ListsAscending K xs × (i < length xs) × (slice_index xs i ≡ slice_index names q))
   number_told place is = of_place place (number_is place is) where
     of_place : (o : Option ℕ) → MatchOption o (¬ K (slice_index names q)) (λ j. (j < length listed) × (slice_index listed j ≡ slice_index names q)) → MatchOption o (¬ K (slice_index names q)) (λ i. (xs : List ℕ) × ListsAscending K xs × (i < length xs) × (slice_index xs i ≡ slice_index names q))
     of_place None none = none
     of_place (Some j) found = (listed, are.listed_are, found.0, found.1)
 
-pub number_written : (h : List Event) (names listed : List ℕ) (numbers : List (Option ℕ)) → AreNumbers (IsWritten h) names listed numbers → (q : ℕ) → q < length names → (place : Option ℕ) → place ≡ slice_index_or numbers q None → MatchOption place ((t : ℕ) → ¬ Wrote h t (slice_index names q)) (λ i. IsKeyAt h i (slice_index names q))
+pub number_written : (h : List Event) (names listed numbers : List ℕ) → AreNumbers (IsWritten h) names listed numbers → (q : ℕ) → q < length names → (place : Option ℕ) → place ≡ place_below (length listed) (slice_index numbers q) → MatchOption place ((t : ℕ) → ¬ Wrote h t (slice_index names q)) (λ i. IsKeyAt h i (slice_index names q))
 number_written h names listed numbers are q inside place is = of_place place (number_told (IsWritten h) names listed numbers are q inside place is) where
   of_place : (o : Option ℕ) → MatchOption o (¬ IsWritten h (slice_index names q)) (λ i. IsKeyAt h i (slice_index names q)) → MatchOption o ((t : ℕ) → ¬ Wrote h t (slice_index names q)) (λ i. IsKeyAt h i (slice_index names q))
   of_place None none = λ t wrote. none (t, wrote)

@@ -1,8 +1,8 @@
 -- The places of rows by a number of each, which no other row has.
-use Rattle.std.proofs.Common.{◌≡◌, ◌≢◌, inl, inr, ℕ, zero, suc, ◌+◌, ◌<◌, ◌≤◌, List, [], ◌∷◌, length, map, set, Option, Some, None, refl, sym, subst, ◌∙◌, ap, arith}
-use Rattle.std.specs.Prelude.{All, AllPairs, Contains, replicate, slice_index_or}
+use Rattle.std.proofs.Common.{◌≡◌, ◌≢◌, inl, inr, ℕ, zero, suc, ◌+◌, ◌<◌, ◌≤◌, List, [], ◌∷◌, length, map, set, refl, sym, subst, ◌∙◌, ap, arith}
+use Rattle.std.specs.Prelude.{All, AllPairs, Contains, replicate, slice_index, slice_index_or}
 use Rattle.std.proofs.lemmas.Bool.{cases_lt, cases_eq}
-use Rattle.std.proofs.lemmas.List.{get_or_default, get_or-map, length-map, length-set, get_or-set_same, get_or-set_other}
+use Rattle.std.proofs.lemmas.List.{get_or_default, get_or-map, get_or-replicate, length-map, length-replicate, length-set, get_or-set_same, get_or-set_other}
 use Rattle.std.proofs.lemmas.List.Elements.{All-contains}
 use Rattle.sia_index.specs.Tables.{ArePlaces}
 use Rattle.sia_index.proofs.Sorting.Dealt.{holds_all}
@@ -46,46 +46,42 @@ few_rows number (r ∷ rest) count apart below =
     (λ k d b. let is = at k d (omega arith) in let less = below k r (omega arith) in omega arith) in
     omega arith
 
-pub all_none : (n q : ℕ) → slice_index_or {A = Option ℕ} (replicate n None) q None ≡ None
-all_none zero q = refl
-all_none (suc n) zero = refl
-all_none (suc n) (suc q) = all_none n q
-
 -- the places of the first n rows
-pub record PlacesSoFar {A : Type 0} (number : A → ℕ) (rows : List A) (n count : ℕ) (places : List (Option ℕ)) : Type 0 where
+pub record PlacesSoFar {A : Type 0} (number : A → ℕ) (rows : List A) (n count : ℕ) (places : List ℕ) : Type 0 where
   pub long : length places ≡ count
-  pub each : (i : ℕ) (d : A) → i < n → slice_index_or places (number (slice_index_or rows i d)) None ≡ Some i
-  pub only : (q i : ℕ) → slice_index_or places q None ≡ Some i → (i < n) × ((d : A) → number (slice_index_or rows i d) ≡ q)
+  pub each : (i : ℕ) (d : A) → i < n → slice_index places (number (slice_index_or rows i d)) ≡ i
+  pub only : (q : ℕ) (d : A) → q < count → slice_index places q < length rows → (slice_index places q < n) × (number (slice_index_or rows (slice_index places q) d) ≡ q)
 
 module _ {A : Type 0} (number : A → ℕ) (rows : List A) (count : ℕ) where
-  pub places_none : (places : List (Option ℕ)) → length places ≡ count → ((q : ℕ) → slice_index_or places q None ≡ None) → PlacesSoFar number rows 0 count places
-  places_none places long none = record {
-    long = long;
+  pub places_none : (none : ℕ) → length rows ≤ none → (places : List ℕ) → places ≡ replicate count none → PlacesSoFar number rows 0 count places
+  places_none none behind places is = record {
+    long = ap length is ∙ length-replicate count none;
     each = λ i d less. absurd (omega arith);
-    only = λ q i is. let no = none q in let e : None ≡ Some i = sym no ∙ is in absurd cc;
+    only = λ q d inside found. let at : slice_index places q ≡ none = ap (λ xs. slice_index xs q) is ∙ get_or-replicate count q none 0 inside in absurd (omega arith);
   }
 
-  module _ (apart : AllPairs (λ x y. number x ≢ number y) rows) (below : All (λ row. number row < count) rows) (n : ℕ) (places : List (Option ℕ)) (so : PlacesSoFar number rows n count places) where
-    pub places_more : (q : ℕ) (r : A) → n < length rows → q ≡ number (slice_index_or rows n r) → PlacesSoFar number rows (n + 1) count (set places q (Some n))
+  module _ (apart : AllPairs (λ x y. number x ≢ number y) rows) (below : All (λ row. number row < count) rows) (n : ℕ) (places : List ℕ) (so : PlacesSoFar number rows n count places) where
+    pub places_more : (q : ℕ) (r : A) → n < length rows → q ≡ number (slice_index_or rows n r) → PlacesSoFar number rows (n + 1) count (set places q n)
     places_more q r some is =
         let here : q < length places = (let less = below n r some in omega (arith, so.long)) in
         let own : (d : A) → number (slice_index_or rows n d) ≡ q = λ d. ap number (get_or_default rows n d r some) ∙ sym is in
+        let now : slice_index (set places q n) q ≡ n = get_or-set_same places q n 0 here in
         record {
-          long = length-set places q (Some n) ∙ so.long;
+          long = length-set places q n ∙ so.long;
           each = λ i d less. elim (cases_lt i n) [
-            | inl before ↦ get_or-set_other places q (number (slice_index_or rows i d)) (Some n) None (λ same. apart i n d before some (same ∙ sym (own d))) ∙ so.each i d before
+            | inl before ↦ get_or-set_other places q (number (slice_index_or rows i d)) n 0 (λ same. apart i n d before some (same ∙ sym (own d))) ∙ so.each i d before
             | inr last ↦
                 let at : n ≡ i = omega arith in
-                subst (λ m. slice_index_or (set places q (Some n)) (number (slice_index_or rows m d)) None ≡ Some m) at (ap (λ m. slice_index_or (set places q (Some n)) m None) (own d) ∙ get_or-set_same places q (Some n) None here)
+                subst (λ m. slice_index (set places q n) (number (slice_index_or rows m d)) ≡ m) at (ap (slice_index (set places q n)) (own d) ∙ now)
           ];
-          only = λ p i there. elim (cases_eq p q) [
+          only = λ p d inside found. elim (cases_eq p q) [
             | inl same ↦
-                let e : Some n ≡ Some i = sym (get_or-set_same places q (Some n) None here) ∙ ap (λ m. slice_index_or (set places q (Some n)) m None) (sym same) ∙ there in
-                let at : n ≡ i = cc in
-                (omega arith, λ d. subst (λ m. number (slice_index_or rows m d) ≡ p) at (own d ∙ sym same))
+                let place : n ≡ slice_index (set places q n) p = sym now ∙ ap (slice_index (set places q n)) (sym same) in
+                (omega arith, subst (λ m. number (slice_index_or rows m d) ≡ p) place (own d ∙ sym same))
             | inr other ↦
-                let old = so.only p i (sym (get_or-set_other places q p (Some n) None other) ∙ there) in
-                ((let less = old.0 in omega arith), old.1)
+                let place : slice_index places p ≡ slice_index (set places q n) p = sym (get_or-set_other places q p n 0 other) in
+                let old = so.only p d inside (omega arith) in
+                ((let less = old.0 in omega arith), subst (λ m. number (slice_index_or rows m d) ≡ p) place old.1)
           ];
         }
 
@@ -94,5 +90,5 @@ module _ {A : Type 0} (number : A → ℕ) (rows : List A) (count : ℕ) where
       long = so.long;
       few = few_rows number rows count apart below;
       each = λ i d less. so.each i d (omega arith);
-      only = λ q i is. let found = so.only q i is in ((let less = found.0 in omega arith), found.1);
+      only = λ q d inside found. (so.only q d inside found).1;
     }

@@ -1,9 +1,7 @@
 -- Each turn enters the place of one row.
-use Rattle.std.proofs.Common.{◌≡◌, ◌∙◌, None, ap, length, arith, rules}
-use Rattle.std.specs.Prelude.{replicate, slice_index_or}
-use Rattle.std.proofs.lemmas.List.{length-replicate}
+use Rattle.std.proofs.Common.{ap, arith, rules}
 use Rattle.sia_index.specs.declared.names.Numbered.{Numbered}
-use Rattle.sia_index.proofs.TxnTables.PlacesOf.{all_none, places_none, places_more, places_all, few_rows}
+use Rattle.sia_index.proofs.TxnTables.PlacesOf.{places_none, places_more, places_all, few_rows}
 use Rattle.sia_index.proofs.names.places_of.Goals as goal
 
 pub overflow_cast-i : goal.overflow_cast-i
@@ -15,8 +13,9 @@ overflow_cast-i g c =
 
 pub loop-i-init : goal.loop-i-init
 loop-i-init g c =
-    let zero : c.in_ok-places.places.items ≡ replicate c.args.count None = c.in_ok-places.ensures.items_if_clones_equal (λ y k. search rules) in
-    places_none (λ (row : Numbered g.row.N.Denot). row.number) c.args.rows.now c.args.count c.in_ok-places.places.items (ap length zero ∙ length-replicate c.args.count None) (λ q. ap (λ xs. slice_index_or xs q None) zero ∙ all_none c.args.count q)
+    let few = few_rows (λ (row : Numbered g.row.N.Denot). row.number) c.args.rows.now c.args.count c.requires.apart c.requires.within in
+    let fits = c.ranges.count.fits in
+    places_none (λ (row : Numbered g.row.N.Denot). row.number) c.args.rows.now c.args.count 4294967295 (omega arith) c.in_ok-places.places.items (c.in_ok-places.ensures.items_if_clones_equal (λ y k. search rules))
 
 pub loop-i-preserved : goal.loop-i-preserved
 loop-i-preserved g c = places_more (λ (row : Numbered g.row.N.Denot). row.number) c.args.rows.now c.args.count c.requires.apart c.requires.within c.loop-i.i c.loop-i.places.items c.loop-i.invariant _ c.index-rows-i.result c.loop-i-test.true (ap (λ (row : Numbered g.row.N.Denot). row.number) c.index-rows-i.is)

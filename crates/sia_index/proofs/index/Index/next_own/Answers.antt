@@ -1,5 +1,5 @@
 -- The first row before the place between the points of the two keys; and what wrote nothing wrote nothing before.
-use Rattle.std.proofs.Common.{arith, rules}
+use Rattle.std.proofs.Common.{rules}
 use Rattle.std.specs.Prelude.{slice_range}
 use Rattle.sia_index.specs.Rows.{AreWritesOf}
 use Rattle.sia_index.proofs.Answering.OwnRows.{none_own, own_rows, some_own}
