@@ -13,6 +13,7 @@ use crate::index::Index;
 use crate::info::{Made, WriteAt};
 use crate::keyed::{ByPlace, place_above};
 use crate::minima::next_below;
+use crate::versions::Written;
 
 impl Index {
     /// The number of the log's key among the written ones, if it is written.
@@ -36,7 +37,9 @@ impl Index {
             × (v.key ≡ (write_at (names_of self.now) (write - 1)).0)
             × (v.txn ≡ (write_at (names_of self.now) (write - 1)).1) × (0 < v.commit)) }
     {
-        self.versions.writes[write as usize - 1]
+        let Written { key, position } = self.versions.writes[write as usize - 1];
+        let position = ((position as usize) < self.versions.made.len()).then_some(position);
+        WriteAt { key, position }
     }
 
     /// How many positions there are.

@@ -13,12 +13,11 @@ use sia_events::{Key, Log, Row, TxnEnd, TxnId, TxnRow};
 use std::alloc::{AllocError, Global};
 
 /// Every transaction once, ascending, and every committed one, with its lifetime beside it. `order` has for each place among all the
-/// number in the log, and `committed_numbers` for each number there the place among the committed ones, or one behind them all.
+/// number in the log. By these numbers stand what is known of each, and its place among the committed ones, or one behind them all.
 #[derive(Drop)]
 pub struct Txns {
     pub ids: Vec<TxnId>,
     pub order: Vec<u32>,
-    /// By the log's numbers.
     pub known: Vec<TxnRow>,
     pub committed: Vec<TxnId>,
     pub lifetimes: Vec<Lifetime>,

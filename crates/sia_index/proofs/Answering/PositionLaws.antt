@@ -1,7 +1,8 @@
 -- What the tables of versions say of positions.
-use Rattle.std.proofs.Common.{◌≡◌, ◌⊎◌, ◌↔◌, inl, inr, ℕ, zero, suc, ◌+◌, ◌-◌, ◌<◌, ◌≤◌, List, [], ◌∷◌, length, map, Option, None, Some, refl, sym, subst, ◌∙◌, ap, arith, slice_get}
+use Rattle.std.proofs.Common.{◌≡◌, ◌⊎◌, ◌↔◌, inl, inr, ℕ, zero, suc, ◌+◌, ◌-◌, ◌<◌, ◌≤◌, List, [], ◌∷◌, length, ltb, map, Bool, true, false, Option, None, Some, refl, sym, subst, ◌∙◌, ap, arith, slice_get}
+use Rattle.std.specs.Bool.{then_some}
 use Rattle.std.specs.Prelude.{AllPairs, MatchOption, slice_index, slice_index_or, slice_range}
-use Rattle.std.proofs.lemmas.Bool.{cases_lt, cases_eq}
+use Rattle.std.proofs.lemmas.Bool.{cases_lt, cases_eq, ltb-false, ltb-true}
 use Rattle.std.proofs.lemmas.List.{get_or-map, get_or_past, length-map}
 use Rattle.std.proofs.lemmas.List.Edits.{length-between, get_or-between}
 use Rattle.std.proofs.lemmas.List.Elements.{Contains-get_or}
@@ -16,8 +17,8 @@ use Rattle.sia_events.proofs.Worked.OneList.{one_list_by}
 use Rattle.sia_events.proofs.Writing.WellFormed.{one_commit}
 use Rattle.sia_index.specs.declared.info.KeyVersion.{KeyVersion}
 use Rattle.sia_index.specs.declared.info.Made.{Made}
-use Rattle.sia_index.specs.declared.info.WriteAt.{WriteAt}
 use Rattle.sia_index.specs.declared.versions.VersionRow.{VersionRow}
+use Rattle.sia_index.specs.declared.versions.Written.{Written}
 use Rattle.sia_index.specs.declared.versions.Versions.{Versions}
 use Rattle.sia_index.specs.Info.{AreVersions, AreWrittenKeys, IsKeyAt, IsMade}
 use Rattle.sia_index.specs.Lists.{joined}
@@ -32,7 +33,7 @@ use Rattle.sia_index.specs.VersionRows.{IsMadeRow, IsVersionRow, before_commit, 
 use Rattle.sia_index.proofs.VersionRows.DealtVersions.{commit_above, is_made, is_zero, says_version, version_of_write}
 use Rattle.sia_index.proofs.Shared.KeyChains.{key_number}
 use Rattle.sia_index.proofs.Shared.LogNames.{numbered_wrote, writes_stand_once}
-use Rattle.sia_index.proofs.Shared.NumberedNames.{its_number, one_place, same_some}
+use Rattle.sia_index.proofs.Shared.NumberedNames.{its_number, one_place, place_below, same_some}
 use Rattle.sia_index.proofs.Shared.Ordered.{ascends}
 use Rattle.sia_index.proofs.Sorting.Points.{PointWithin, point_above, point_within}
 use Rattle.sia_index.proofs.VersionRows.RowsByPosition.{order}
@@ -239,16 +240,19 @@ module _ (h : List Event) (txns : Txns) (ks : Keys) (v : Versions) (ws : Writes)
       subst (λ q. (q < length t.rows) × ((row q).key ≡ i) × ((row q).commit ≡ 0)) (sym place) (z.1, number, z.3)
 
   -- what the table of writes says
-  pub write_is : (w : ℕ) (d : WriteAt) → w < length (writes_of h) → MatchOption (slice_index_or v.writes.items w d).position (¬ IsCommitted h (write_at (names_of h) w).1)
+  pub write_is : (w : ℕ) (d : Written) → w < length (writes_of h) → (found : Option ℕ) → found ≡ place_below (length v.made.items) (slice_index_or v.writes.items w d).position → MatchOption found (¬ IsCommitted h (write_at (names_of h) w).1)
       (λ q. (x : KeyVersion) × IsAtPosition h q x × (x.key ≡ (write_at (names_of h) w).0) × (x.txn ≡ (write_at (names_of h) w).1) × (0 < x.commit))
-  write_is w d inside = of_position (slice_index_or v.writes.items w d).position refl
+  write_is w d inside found told = subst (λ o. MatchOption o (¬ IsCommitted h (write_at (names_of h) w).1) (λ q. (x : KeyVersion) × IsAtPosition h q x × (x.key ≡ (write_at (names_of h) w).0) × (x.txn ≡ (write_at (names_of h) w).1) × (0 < x.commit))) (sym told) (by_test (ltb j (length v.made.items)) refl)
     where
+      j : ℕ
+      j = (slice_index_or v.writes.items w d).position
+
       pair : slice_get (writes_of h) w ≡ Some (write_at (names_of h) w)
       pair = slice_get-get_or (writes_of h) w (0, 0) inside
 
-      of_position : (p : Option ℕ) → (slice_index_or v.writes.items w d).position ≡ p → MatchOption p (¬ IsCommitted h (write_at (names_of h) w).1)
+      by_test : (b : Bool) → ltb j (length v.made.items) ≡ b → MatchOption (then_some b j) (¬ IsCommitted h (write_at (names_of h) w).1)
           (λ q. (x : KeyVersion) × IsAtPosition h q x × (x.key ≡ (write_at (names_of h) w).0) × (x.txn ≡ (write_at (names_of h) w).1) × (0 < x.commit))
-      of_position None none = λ done.
+      by_test false more = λ done.
           let k = (write_at (names_of h) w).0 in
           let u = (write_at (names_of h) w).1 in
           let p = stands (record { key = k; commit = done.0; txn = u }) (inr (numbered_wrote h w k u pair, done.1)) in
@@ -258,14 +262,18 @@ module _ (h : List Event) (txns : Txns) (ks : Keys) (v : Versions) (ws : Writes)
           let key = ap (λ (x : KeyVersion). x.key) p.2 in
           let txn : made.1 ≡ u = sym (version_of_write h (row p.0).write (slice_index keys (row p.0).key) made.1 made.0 made.2) ∙ ap (λ (x : KeyVersion). x.txn) p.2 in
           let same = writes_stand_once h ((row p.0).write - 1) w (k, u) (made.2 ∙ ap (λ j. Some (j, made.1)) key ∙ ap (λ m. Some (k, m)) txn) pair in
-          let placed = t.writes_are.placed p.0 no_row d p.1 made.0 in
-          let e : None ≡ Some p.0 = sym none ∙ ap (λ n. (slice_index_or v.writes.items n d).position) (sym same) ∙ placed in
-          absurd cc
-      of_position (Some j) is =
-          let found = t.writes_are.only w j no_row d inside is in
-          let below = found.0 in
-          let made = is_made h wf committed keys keys_are (row j) (is_row j below) (let e = found.1 in omega arith) in
-          let same : (row j).write - 1 ≡ w = let e = found.1 in omega arith in
+          let place : j ≡ p.0 = ap (λ n. (slice_index_or v.writes.items n d).position) (sym same) ∙ t.writes_are.placed p.0 no_row d p.1 made.0 in
+          let behind = ltb-false j (length v.made.items) more in
+          let below : p.0 < length t.rows = p.1 in
+          let long = t.made_are.0 in
+          absurd (omega arith)
+      by_test true less =
+          let under = ltb-true j (length v.made.items) less in
+          let long = t.made_are.0 in
+          let below : j < length t.rows = omega arith in
+          let is = t.writes_are.only w no_row d inside below in
+          let made = is_made h wf committed keys keys_are (row j) (is_row j below) (let e = is.1 in omega arith) in
+          let same : (row j).write - 1 ≡ w = let e = is.1 in omega arith in
           let both = same_some (slice_index keys (row j).key, made.1) (write_at (names_of h) w) (sym made.2 ∙ ap (slice_get (writes_of h)) same ∙ pair) in
           (at j, there j below, ap (λ (p : ℕ × ℕ). p.0) both, version_of_write h (row j).write (slice_index keys (row j).key) made.1 made.0 made.2 ∙ ap (λ (p : ℕ × ℕ). p.1) both, commit_above h made.1 (row j).commit made.3)
 

@@ -1,5 +1,5 @@
 -- The tables of versions, as loops over their rows fill them.
-use Rattle.std.proofs.Common.{◌≡◌, ◌≢◌, inl, inr, ℕ, zero, suc, ◌%◌, ◌+◌, ◌-◌, ◌<◌, ◌≤◌, List, [], ◌∷◌, ◌++◌, length, set, get_or, Some, None, refl, sym, subst, ◌∙◌, ap, arith, slice_get}
+use Rattle.std.proofs.Common.{◌≡◌, ◌≢◌, inl, inr, ℕ, zero, suc, ◌%◌, ◌+◌, ◌-◌, ◌<◌, ◌≤◌, List, [], ◌∷◌, ◌++◌, length, set, get_or, Some, refl, sym, subst, ◌∙◌, ap, arith, slice_get}
 use Rattle.std.specs.Prelude.{All, AllPairs, slice_index, slice_index_or}
 use Rattle.std.proofs.lemmas.Bool.{cases_lt, cases_eq}
 use Rattle.std.proofs.lemmas.List.{get_or_default, get_or_append_left, get_or_push, get_or-set_same, get_or-set_other, length-set, length_push}
@@ -8,16 +8,13 @@ use Rattle.sia_events.specs.declared.event.Event.{Event}
 use Rattle.sia_events.specs.Lists.{Precedes}
 use Rattle.sia_events.specs.Numbering.{names_of, writes_of, write_at}
 use Rattle.sia_events.specs.Transactions.{CommitsAt}
-use Rattle.sia_index.specs.declared.info.WriteAt.{WriteAt}
 use Rattle.sia_index.specs.declared.versions.VersionRow.{VersionRow}
+use Rattle.sia_index.specs.declared.versions.Written.{Written}
 use Rattle.sia_index.specs.VersionRows.{AreFirsts, AreRowsBelow, AreWritesAt, AreZeroRows, IsMadeRow, IsVersionRow, before_commit}
 use Rattle.sia_index.proofs.Shared.NumberedNames.{same_some}
 
 abbrev pub no_row : VersionRow
 no_row = record { key = 0; commit = 0; maker = 0; write = 0 }
-
-abbrev pub no_write : WriteAt
-no_write = record { key = 0; position = None }
 
 -- less 1, in 32 bits, a commit is how many events stand before it
 pub before_wrapped : (n : ℕ) → n < 4294967296 → (n + 4294967295) % 4294967296 ≡ before_commit n
@@ -141,30 +138,30 @@ module _ (rows : List VersionRow) (n keys : ℕ) (firsts : List ℕ) (are : AreF
       key = (slice_index_or rows n r).key
 
 -- the keys of the first n writes, none of which has a position
-abbrev pub WritesSoFar : List Event → List ℕ → ℕ → List WriteAt → Type 0
+abbrev pub WritesSoFar : List Event → List ℕ → ℕ → List Written → Type 0
 WritesSoFar h keys n writes = (length writes ≡ n)
-    × ((w : ℕ) (d : WriteAt) → w < n → ((slice_index_or writes w d).key < length keys) × (slice_index keys (slice_index_or writes w d).key ≡ (write_at (names_of h) w).0) × ((slice_index_or writes w d).position ≡ None))
+    × ((w : ℕ) (d : Written) → w < n → ((slice_index_or writes w d).key < length keys) × (slice_index keys (slice_index_or writes w d).key ≡ (write_at (names_of h) w).0) × ((slice_index_or writes w d).position ≡ 4294967295))
 
-pub writes_more : (h : List Event) (keys : List ℕ) (n : ℕ) (writes : List WriteAt) → WritesSoFar h keys n writes → (write : WriteAt) → write.key < length keys → slice_index keys write.key ≡ (write_at (names_of h) n).0 → write.position ≡ None → WritesSoFar h keys (n + 1) (writes ++ write ∷ [])
+pub writes_more : (h : List Event) (keys : List ℕ) (n : ℕ) (writes : List Written) → WritesSoFar h keys n writes → (write : Written) → write.key < length keys → slice_index keys write.key ≡ (write_at (names_of h) n).0 → write.position ≡ 4294967295 → WritesSoFar h keys (n + 1) (writes ++ write ∷ [])
 writes_more h keys n writes so write within key position = (
   length_push writes write ∙ ap (λ m. m + 1) so.0,
   λ w d below. elim (cases_lt w n) [
-    | inl less ↦ subst (λ (x : WriteAt). (x.key < length keys) × (slice_index keys x.key ≡ (write_at (names_of h) w).0) × (x.position ≡ None)) (sym (get_or_append_left writes (write ∷ []) d w (let long = so.0 in omega arith))) (so.1 w d less)
+    | inl less ↦ subst (λ (x : Written). (x.key < length keys) × (slice_index keys x.key ≡ (write_at (names_of h) w).0) × (x.position ≡ 4294967295)) (sym (get_or_append_left writes (write ∷ []) d w (let long = so.0 in omega arith))) (so.1 w d less)
     | inr more ↦
         let at : n ≡ w = omega arith in
-        subst (λ (x : WriteAt). (x.key < length keys) × (slice_index keys x.key ≡ (write_at (names_of h) w).0) × (x.position ≡ None)) (sym (get_or_push writes write d w (let long = so.0 in omega arith))) (within, key ∙ ap (λ m. (write_at (names_of h) m).0) at, position)
+        subst (λ (x : Written). (x.key < length keys) × (slice_index keys x.key ≡ (write_at (names_of h) w).0) × (x.position ≡ 4294967295)) (sym (get_or_push writes write d w (let long = so.0 in omega arith))) (within, key ∙ ap (λ m. (write_at (names_of h) m).0) at, position)
   ],
 )
 
-pub writes_unplaced : (h : List Event) (keys : List ℕ) (writes : List WriteAt) (rows : List VersionRow) → WritesSoFar h keys (length (writes_of h)) writes → AreWritesAt h keys rows 0 writes
-writes_unplaced h keys writes rows so = record {
+pub writes_unplaced : (h : List Event) (keys : List ℕ) (writes : List Written) (rows : List VersionRow) → length rows < 4294967296 → WritesSoFar h keys (length (writes_of h)) writes → AreWritesAt h keys rows 0 writes
+writes_unplaced h keys writes rows few so = record {
   count = so.0;
   keys_are = λ w d below. let is = so.1 w d below in (is.0, is.1);
   placed = λ j d e less. absurd (omega arith);
-  only = λ w j d e below at. let none = (so.1 w e below).2 in absurd (let no : None ≡ Some j = sym none ∙ at in cc);
+  only = λ w d e below found. let none = (so.1 w e below).2 in absurd (omega arith);
 }
 
-module _ (h : List Event) (keys : List ℕ) (rows : List VersionRow) (n : ℕ) (writes : List WriteAt) (are : AreWritesAt h keys rows n writes) (some : n < length rows) (r : VersionRow) where
+module _ (h : List Event) (keys : List ℕ) (rows : List VersionRow) (n : ℕ) (writes : List Written) (are : AreWritesAt h keys rows n writes) (some : n < length rows) (r : VersionRow) where
   pub place_skip : (slice_index_or rows n r).write ≡ 0 → AreWritesAt h keys rows (n + 1) writes
   place_skip none = record {
     count = are.count;
@@ -177,45 +174,46 @@ module _ (h : List Event) (keys : List ℕ) (rows : List VersionRow) (n : ℕ) (
           let b = ap (λ (x : VersionRow). x.write) (get_or_default rows n d r some) in
           absurd (omega arith)
     ];
-    only = λ w j d e below at. let old = are.only w j d e below at in ((let less = old.0 in omega arith), old.1);
+    only = λ w d e below found. let old = are.only w d e below found in ((let less = old.0 in omega arith), old.1);
   }
 
   -- the version of the next row is placed
-  pub place_more : AllPairs (λ (x : VersionRow) y. 0 < x.write → x.write ≢ y.write) rows → (w : ℕ) → (slice_index_or rows n r).write ≡ w + 1 → w < length writes → (old : WriteAt) → old ≡ slice_index_or writes w old → AreWritesAt h keys rows (n + 1) (set writes w (record { key = old.key; position = Some n }))
+  pub place_more : AllPairs (λ (x : VersionRow) y. 0 < x.write → x.write ≢ y.write) rows → (w : ℕ) → (slice_index_or rows n r).write ≡ w + 1 → w < length writes → (old : Written) → old ≡ slice_index_or writes w old → AreWritesAt h keys rows (n + 1) (set writes w (record { key = old.key; position = n }))
   place_more apart w write within old read = record {
     count = length-set writes w more ∙ are.count;
     keys_are = λ v d below. elim (cases_eq v w) [
       | inl same ↦
           let is = are.keys_are v old below in
           let own : slice_index_or (set writes w more) v d ≡ more = ap (λ u. slice_index_or (set writes w more) u d) same ∙ get_or-set_same writes w more d within in
-          let key : (slice_index_or writes v old).key ≡ (slice_index_or (set writes w more) v d).key = ap (λ u. (slice_index_or writes u old).key) same ∙ sym (ap (λ (x : WriteAt). x.key) read) ∙ sym (ap (λ (x : WriteAt). x.key) own) in
+          let key : (slice_index_or writes v old).key ≡ (slice_index_or (set writes w more) v d).key = ap (λ u. (slice_index_or writes u old).key) same ∙ sym (ap (λ (x : Written). x.key) read) ∙ sym (ap (λ (x : Written). x.key) own) in
           subst (λ k. (k < length keys) × (slice_index keys k ≡ (write_at (names_of h) v).0)) key is
-      | inr other ↦ subst (λ (x : WriteAt). (x.key < length keys) × (slice_index keys x.key ≡ (write_at (names_of h) v).0)) (sym (get_or-set_other writes w v more d other)) (are.keys_are v d below)
+      | inr other ↦ subst (λ (x : Written). (x.key < length keys) × (slice_index keys x.key ≡ (write_at (names_of h) v).0)) (sym (get_or-set_other writes w v more d other)) (are.keys_are v d below)
     ];
     placed = λ j d e less made. elim (cases_lt j n) [
       | inl before ↦
           let b = ap (λ (x : VersionRow). x.write) (get_or_default rows n d r some) in
           let differs : (slice_index_or rows j d).write ≢ (slice_index_or rows n d).write = apart j n d before some made in
-          ap (λ (x : WriteAt). x.position) (get_or-set_other writes w ((slice_index_or rows j d).write - 1) more e (λ same. differs (omega arith))) ∙ are.placed j d e before made
+          ap (λ (x : Written). x.position) (get_or-set_other writes w ((slice_index_or rows j d).write - 1) more e (λ same. differs (omega arith))) ∙ are.placed j d e before made
       | inr last ↦
           let same : j ≡ n = omega arith in
           let a = ap (λ m. (slice_index_or rows m d).write) same in
           let b = ap (λ (x : VersionRow). x.write) (get_or_default rows n d r some) in
           let at : (slice_index_or rows j d).write - 1 ≡ w = omega arith in
-          ap (λ u. (slice_index_or (set writes w more) u e).position) at ∙ ap (λ (x : WriteAt). x.position) (get_or-set_same writes w more e within) ∙ ap Some (sym same)
+          ap (λ u. (slice_index_or (set writes w more) u e).position) at ∙ ap (λ (x : Written). x.position) (get_or-set_same writes w more e within) ∙ sym same
     ];
-    only = λ v j d e below at. elim (cases_eq v w) [
+    only = λ v d e below found. elim (cases_eq v w) [
       | inl same ↦
           let own : slice_index_or (set writes w more) v e ≡ more = ap (λ u. slice_index_or (set writes w more) u e) same ∙ get_or-set_same writes w more e within in
-          let place : n ≡ j = same_some n j (sym (ap (λ (x : WriteAt). x.position) own) ∙ at) in
+          let place : n ≡ (slice_index_or (set writes w more) v e).position = sym (ap (λ (x : Written). x.position) own) in
           let b = ap (λ (x : VersionRow). x.write) (get_or_default rows n d r some) in
           let c = ap (λ m. (slice_index_or rows m d).write) place in
           (omega arith, omega arith)
       | inr other ↦
-          let old_at = are.only v j d e below (ap (λ (x : WriteAt). x.position) (sym (get_or-set_other writes w v more e other)) ∙ at) in
-          ((let less = old_at.0 in omega arith), old_at.1)
+          let place : (slice_index_or writes v e).position ≡ (slice_index_or (set writes w more) v e).position = ap (λ (x : Written). x.position) (sym (get_or-set_other writes w v more e other)) in
+          let old_at = are.only v d e below (omega arith) in
+          ((let less = old_at.0 in omega arith), subst (λ m. (slice_index_or rows m d).write ≡ v + 1) place old_at.1)
     ];
   }
     where
-      more : WriteAt
-      more = record { key = old.key; position = Some n }
+      more : Written
+      more = record { key = old.key; position = n }
