@@ -109,6 +109,13 @@ pub record IsGap (h : List Event) (known : Known) (own : Bool) (from to : ℕ) :
   pub unlisted : (i : ℕ) → from ≤ i → i < to → (k : ℕ) × IsKeyAt h i k × SawAt h known.reader.place known.reader.txn k 0
   pub not_own : own ≡ false → (i k : ℕ) → from ≤ i → i < to → IsKeyAt h i k → ¬ WroteBefore h known.reader.txn k known.reader.place
 
+-- the reader saw the pair, and version 0 of the keys with numbers from the one to before that of its key, and hadn't written them where it is said
+pub record IsListed (h : List Event) (known : Known) (own : Bool) (from p : ℕ) : Type 0 where
+  pub pair : IsPair (names_of h) p
+  pub saw : SawAt h known.reader.place known.reader.txn (pair_at (names_of h) p).0 (pair_at (names_of h) p).1
+  pub not_own : own ≡ false → ¬ WroteBefore h known.reader.txn (pair_at (names_of h) p).0 known.reader.place
+  pub gap : (i : ℕ) → IsKeyAt h i (pair_at (names_of h) p).0 → (from ≤ i) × IsGap h known own from i
+
 -- all keys with numbers from the one to before the other have P, or those below the number that was found
 abbrev pub HaveUpTo : (ℕ → Type 0) → List Event → ℕ → ℕ → Option ℕ → Type 0
 HaveUpTo P h from to found = MatchOption found ((i k : ℕ) → from ≤ i → i < to → IsKeyAt h i k → P k)

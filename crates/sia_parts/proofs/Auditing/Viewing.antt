@@ -1,5 +1,5 @@
 -- What follows from a view: what is due, and which look it gives.
-use Rattle.std.proofs.Common.{◌≡◌, ◌≢◌, inl, inr, ℕ, ◌+◌, ◌<◌, ◌≤◌, List, Option, Some, None, Result, Ok, Err, Bool, false, subst, arith}
+use Rattle.std.proofs.Common.{◌≡◌, ◌≢◌, inl, inr, ℕ, ◌+◌, ◌<◌, ◌≤◌, List, Option, Some, None, Result, Ok, Err, Bool, false, sym, subst, arith}
 use Rattle.std.specs.Prelude.{◌↔◌, MatchOption, OnOk}
 use Rattle.std.specs.Option.{is_some}
 use Rattle.sia_events.specs.declared.event.Event.{Event}
@@ -18,14 +18,15 @@ use Rattle.sia_index.specs.declared.info.KeyVersion.{KeyVersion}
 use Rattle.sia_index.specs.Positions.{IsAtPosition, IsNewestAsOf}
 use Rattle.sia_parts.specs.declared.audit.sights.Known.{Known}
 use Rattle.sia_parts.specs.declared.audit.sights.Seen.{Seen}
-use Rattle.sia_parts.specs.Sights.{Sight, IsSight, LooksAt}
+use Rattle.sia_parts.specs.Sights.{Adds, Sight, IsSight, LooksAt}
 use Rattle.sia_parts.specs.declared.audit.sights.View.{View}
 use Rattle.sia_parts.specs.declared.audit.sights.WrongReads.{WrongReads}
 use Rattle.sia_parts.specs.Known.{IsKnown}
 use Rattle.sia_parts.specs.Seeing.{AddsWrong, Gains, IsLoose, IsPositionOf, IsSightWithin, IsView, sight_of}
-use Rattle.sia_parts.proofs.Auditing.Gaining.{GainsLook, gains_one, gains_same, is_sight, one_sight}
+use Rattle.sia_parts.proofs.Auditing.Gaining.{GainsLook, gains_one, gains_same, is_sight, look_gains, one_sight}
 use Rattle.sia_parts.proofs.Shared.OneNumber.{at_is_written, one_key_number}
 use Rattle.sia_parts.proofs.Auditing.Positions.{at_as_of, newest_is_due}
+use Rattle.sia_parts.proofs.Auditing.Saw.{due_not_wrong}
 
 pub on_ok : {T E : Type 0} (r : Result T E) (P Q : Type 0) → (P → Q) → OnOk r P → OnOk r Q
 on_ok (Ok x) P Q to p = to p
@@ -104,6 +105,14 @@ module _ (h : List Event) (wf : IsWellFormed h) (known : Known) (is_known : IsKn
       (is_sight h wf known.reader.place known.reader.txn k v view.at.key is.saw is.at.key)
       (one_sight h wf known.reader.place known.reader.txn k v view.at.key is.saw is.at.key)
       old wrong saw adds gains
+
+  -- what is the newest as of the start is no wrong read, and its look is added
+  pub gains_newest : (q : ℕ) → view.at.position ≡ Some q → view.mine ≡ false → ((w : KeyVersion) → IsAtPosition h q w → IsNewestAsOf h known.reader.start w)
+      → (old : Seen) (saw : List (ℕ × ℕ)) → Adds (λ (p : ℕ × ℕ). (known.number ≡ Some p.0) × (p.1 ≡ q)) old.saw saw
+      → Gains h (IsSightWithin h known.reader.place view.at.key (view.at.key + 1)) old (record { wrong = old.wrong; saw = saw; missed = old.missed; near = old.near })
+  gains_newest q some told newest old saw adds = gains_view old old.wrong saw
+      (due_not_wrong h wf (λ s. s ≡ seen_sight) (λ s same. subst (λ (x : Sight). IsDue h x.txn x.place x.key x.saw) (sym same) (seen_is_due q some told newest)) old.wrong)
+      (look_gains h wf seen_sight known.number q is_known.number (saw_other told) (stands q some) old.saw saw adds)
 
 -- where a transaction read a key only, all that is seen there is of that key
 module _ (h : List Event) (p t k v : ℕ) (at : at_place h p ≡ Some (Read t k v)) where

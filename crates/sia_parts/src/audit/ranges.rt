@@ -1,19 +1,19 @@
 //! What a range read saw of the keys of a part: the keys that it listed, and those that it passed over.
-ghost use Rattle.std.specs.Prelude.{◌≡◌, ◌↔◌, ◌+◌, ◌<◌, ◌≤◌, ℕ, All, Contains, OnOk, Some, length};
+ghost use Rattle.std.specs.Prelude.{◌≡◌, ◌↔◌, ◌+◌, ◌<◌, ◌≤◌, ℕ, All, Contains, IfOk, OnOk, Some, length};
 ghost use Rattle.sia_events.specs.declared.event.Event.TheVariants as events;
 ghost use Rattle.sia_events.specs.Numbering.{names_of, pair_at, range_at, ranges_of, AscendByKey, IsPair};
 ghost use Rattle.sia_events.specs.Places.{at_place};
 ghost use Rattle.sia_events.specs.Reads.{IsDue};
 ghost use Rattle.sia_events.specs.Refusals.{IsWellFormed};
-ghost use Rattle.sia_index.specs.Info.{HasKeyAt};
+ghost use Rattle.sia_index.specs.Info.{HasKeyAt, IsKeyAt};
 ghost use Rattle.sia_parts.specs.Accesses.{IsMissAt, IsPassedBy};
 ghost use Rattle.sia_parts.specs.Known.{IsKnown};
-ghost use Rattle.sia_parts.specs.Seeing.{AddsWrong, Gains, IsCover, IsGap, IsMiss, HaveUpTo, IsScope, IsSightWithin};
+ghost use Rattle.sia_parts.specs.Seeing.{Gains, IsCover, IsGap, IsListed, IsMiss, HaveUpTo, IsScope, IsSightWithin};
 ghost use Rattle.sia_parts.specs.Sights.{Gives};
 
 use crate::accesses::{ByReader, RangeMiss};
 use crate::audit::sights::{
-    Known, Scope, Seen, WrongReads, due_at, numbers_within, put_if_bad, put_view, stands,
+    Known, Scope, Seen, View, due_at, numbers_within, put_if_bad, put_position, put_view, stands,
 };
 use sia_events::{Key, Log, NoMemory};
 use sia_index::Index;
@@ -91,17 +91,53 @@ fn put_covered(scope: &Scope, known: &Known, cover: &Cover, seen: &mut Seen) -> 
         (IsSightWithin scope.now.ix.now known.now.reader.place cover.now.first cover.now.end) seen.old
         seen.new) }
 {
+    // Of copies the fields stay in registers, whatever is called.
+    let (here, who, own) = (*scope, *known, cover.own);
     let mut next = cover.first;
     for pair in cover.pairs {
         // Version 0 of a key that isn't written is due to everyone.
-        if let Some(at) = stands(scope, *pair) {
-            put_gap(scope.ix, known, cover.own, next, at.key, seen)?;
-            next = at.key + 1;
-            let mine = cover.own && scope.ix.wrote_before(known.reader, scope.log.pair(*pair).0);
-            put_view(scope, known, *pair, at, mine, seen)?;
+        let Some(at) = stands(&here, *pair) else {
+            continue;
+        };
+        if let Some(position) = at.position
+            && !own
+            && at.key == next
+            && here.ix.is_newest(position, who.reader.start)
+        {
+            put_position(who.number, position, &mut seen.saw)?;
+            next += 1;
+        } else {
+            next = put_listed(scope, known, own, *pair, next, seen)?;
         }
     }
     put_gap(scope.ix, known, cover.own, next, cover.end, seen)
+}
+
+/// Adds what was seen of a listed key that is written, and of those from number `next` on before it. Tells the number behind it.
+#[cold]
+#[inline(never)]
+fn put_listed(
+    scope: &Scope,
+    known: &Known,
+    own: bool,
+    pair: u32,
+    next: u32,
+    seen: &mut Seen,
+) -> Result<u32, NoMemory>
+    requires scope { IsScope scope.now }
+    requires known { IsKnown scope.now.ix.now known.now }
+    requires listed { IsListed scope.now.ix.now known.now own next pair }
+    ensures { IfOk result (λ behind. (i : ℕ) → IsKeyAt scope.now.ix.now i (pair_at (names_of scope.now.ix.now) pair).0
+        → (behind ≡ i + 1) × Gains scope.now.ix.now
+        (IsSightWithin scope.now.ix.now known.now.reader.place next behind) seen.old seen.new) }
+{
+    let Some(at) = stands(scope, pair) else {
+        return Ok(next);
+    };
+    put_gap(scope.ix, known, own, next, at.key, seen)?;
+    let mine = own && scope.ix.wrote_before(known.reader, scope.log.pair(pair).0);
+    put_view(scope, known, &View { pair, at, mine }, seen)?;
+    Ok(at.key + 1)
 }
 
 /// Adds what was seen of keys from one number to before another, none of which was listed. Without `own` the reader wrote none before.
@@ -123,35 +159,16 @@ fn put_gap(
     if from >= to {
         return Ok(());
     }
-    put_unlisted(ix, known, own, from, to, &mut seen.wrong)?;
-    put_miss(known.number, RangeMiss { from, to }, &mut seen.missed)
-}
-
-/// Adds the bad reads of keys that weren't listed, at which another version than 0 was due.
-fn put_unlisted(
-    ix: &Index,
-    known: &Known,
-    own: bool,
-    from: u32,
-    to: u32,
-    wrong: &mut WrongReads,
-) -> Result<(), NoMemory>
-    requires well_formed { IsWellFormed ix.now }
-    requires known { IsKnown ix.now known.now }
-    requires some { from < to }
-    requires gap { IsGap ix.now known.now own from to }
-    ensures { OnOk result (AddsWrong ix.now (IsSightWithin ix.now known.now.reader.place from to)
-        wrong.old wrong.new) }
-{
     let mut next = from;
+    // Where another version than 0 was due the read is bad.
     while let Some(number) = next_doubtful(ix, known, own, next, to) {
         let key = ix.written_keys()[number as usize];
         let mine = own && ix.wrote_before(known.reader, key);
         let due = due_at(ix, known, number, mine);
-        put_if_bad(known, (key, 0), due, true, wrong)?;
+        put_if_bad(known, (key, 0), due, true, &mut seen.wrong)?;
         next = number + 1;
     }
-    Ok(())
+    put_miss(known.number, RangeMiss { from, to }, &mut seen.missed)
 }
 
 /// A number of a key, below which version 0 is due to the reader at all keys from the one on.

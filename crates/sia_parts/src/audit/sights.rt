@@ -125,40 +125,24 @@ pub(crate) fn put_read(
     if at.key < scope.first || scope.end <= at.key {
         return Ok(());
     }
-    put_view(scope, known, pair, at, mine, seen)
+    // Mostly it was due, which two loads tell. What is seldom made stands in no turn of a loop.
+    if !mine
+        && let Some(position) = at.position
+        && scope.ix.is_newest(position, known.reader.start)
+    {
+        return put_position(known.number, position, &mut seen.saw);
+    }
+    put_view(scope, known, &View { pair, at, mine }, seen)
 }
 
-/// Adds what was seen of a written key. Mostly it was due, which two loads tell.
-#[inline(always)]
+/// Adds what was seen of a written key.
+#[inline(never)]
 pub(crate) fn put_view(
     scope: &Scope,
     known: &Known,
-    pair: u32,
-    at: WriteAt,
-    mine: bool,
+    view: &View,
     seen: &mut Seen,
 ) -> Result<(), NoMemory>
-    requires scope { IsScope scope.now }
-    requires known { IsKnown scope.now.ix.now known.now }
-    requires view { IsView scope.now.ix.now known.now (record { pair = pair; at = at; mine = mine }) }
-    ensures { OnOk result (Gains scope.now.ix.now
-        (IsSightWithin scope.now.ix.now known.now.reader.place at.key (at.key + 1))
-        seen.old seen.new) }
-{
-    if !mine {
-        if let Some(position) = at.position {
-            if scope.ix.is_newest(position, known.reader.start) {
-                return put_position(known.number, position, &mut seen.saw);
-            }
-        }
-    }
-    // What is seldom made stands in no turn of a loop.
-    put_doubtful(scope, known, &View { pair, at, mine }, seen)
-}
-
-/// The same, where it may not have been due.
-#[inline(never)]
-fn put_doubtful(scope: &Scope, known: &Known, view: &View, seen: &mut Seen) -> Result<(), NoMemory>
     requires scope { IsScope scope.now }
     requires known { IsKnown scope.now.ix.now known.now }
     requires view { IsView scope.now.ix.now known.now view.now }
@@ -244,7 +228,11 @@ fn is_unexplained(known: &Known, due: Version, committed: bool) -> bool
 
 /// The reader saw the version at the position, if it has a number.
 #[inline(always)]
-fn put_position(number: Option<u32>, position: u32, saw: &mut ByReader<u32>) -> Result<(), NoMemory>
+pub(crate) fn put_position(
+    number: Option<u32>,
+    position: u32,
+    saw: &mut ByReader<u32>,
+) -> Result<(), NoMemory>
     ensures { OnOk result (Adds (λ p. (number ≡ Some p.0) × (p.1 ≡ position)) saw.old saw.new) }
 {
     if let Some(reader) = number {
