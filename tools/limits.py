@@ -105,7 +105,7 @@ def far_apart() -> Case:
 
 # The reader's tables (finder.rt) have a power of two of homes, at most 2^18 where there are 100,000 names. A name's home is its
 # low bits, or the bits above the low 32 of the name times this factor.
-FACTOR = 11_400_714_819_323_198_485
+FACTOR = 6_949_403_065
 HOMES = 2**18
 
 

@@ -25,15 +25,15 @@ pub(crate) const MOST_ROWS: usize = 536_870_912;
 /// For names that follow one another, as most are: so do their homes. It is 2^32.
 pub(crate) const IN_ORDER: u64 = 4_294_967_296;
 
-/// For names that anyone may choose, it spreads their bits: 2^64 by the golden ratio.
-pub(crate) const SPREAD: u64 = 11_400_714_819_323_198_485;
+/// For names that anyone may choose, it spreads their bits, and homes lie near where names do: 2^32 by the golden ratio and one.
+pub(crate) const SPREAD: u64 = 6_949_403_065;
 
 /// A hash table of numbers of rows. A row stands in the first slot that was free from its name's home on, or in a tree where
 /// none of `WAYS` was free, so that no choice of names makes a look-up slow.
 #[derive(Drop)]
 pub(crate) struct Finder {
     alloc: Global,
-    /// 2^32 keeps the low bits of names, and an odd number of 64 bits spreads them.
+    /// 2^32 keeps the low bits of names, and an odd number spreads all.
     factor: u64,
     mask: u32,
     /// One more than the number of a row, or 0.
