@@ -1,12 +1,12 @@
 //! Numbers of rows by their names.
-ghost use Rattle.std.specs.Prelude.{◌≡◌, ◌≢◌, ◌^◌, ◌<◌, ◌≤◌, ℕ, List, [], Some, map, length, slice_get, OnOk, IfSome, IfNone, true, false};
+ghost use Rattle.std.specs.Prelude.{◌≡◌, ◌≢◌, ◌+◌, ◌^◌, ◌<◌, ℕ, List, [], Some, map, length, slice_get, OnOk, IfSome, IfNone, true, false};
 ghost use Rattle.sia_events.specs.Finding.{home, Looks, Finds, FindsBelow, Reaches};
 
 use std::alloc::{AllocError, Global};
 use std::collections::BTreeMap;
 
 /// A row that is found by a name.
-pub(crate) trait Named {
+pub trait Named {
     ghost named: { Self → ℕ };
 
     fn name(&self) -> u64
@@ -23,7 +23,7 @@ const LEAST_ROWS: usize = 256;
 pub(crate) const MOST_ROWS: usize = 536_870_912;
 
 /// For names that follow one another, as most are: so do their homes. It is 2^32.
-pub(crate) const IN_ORDER: u64 = 4_294_967_296;
+pub const IN_ORDER: u64 = 4_294_967_296;
 
 /// For names that anyone may choose, it spreads their bits, and homes lie near where names do: 2^32 by the golden ratio and one.
 pub(crate) const SPREAD: u64 = 6_949_403_065;
@@ -31,7 +31,7 @@ pub(crate) const SPREAD: u64 = 6_949_403_065;
 /// A hash table of numbers of rows. A row stands in the first slot that was free from its name's home on, or in a tree where
 /// none of `WAYS` was free, so that no choice of names makes a look-up slow.
 #[derive(Drop)]
-pub(crate) struct Finder {
+pub struct Finder {
     alloc: Global,
     /// 2^32 keeps the low bits of names, and an odd number spreads all.
     factor: u64,
@@ -59,7 +59,8 @@ fn is_named<R: Named>(rows: &[R], number: u32, name: u64) -> bool
 }
 
 impl Finder {
-    pub(crate) fn new(alloc: Global, factor: u64) -> Self
+    /// One that finds none. `IN_ORDER` is a good factor for the names of transactions.
+    pub fn new(alloc: Global, factor: u64) -> Self
         ensures { Finds result [] }
     {
         Finder {
@@ -90,8 +91,8 @@ impl Finder {
         }
     }
 
-    /// The number of a row with the name.
-    pub(crate) fn find<R: Named>(&self, rows: &[R], name: u64) -> Option<u32>
+    /// The number of a row with the name. The rows are those that were taken in.
+    pub fn find<R: Named>(&self, rows: &[R], name: u64) -> Option<u32>
         ensures some { IfSome result (λ n. slice_get (map R.named rows.now) n ≡ Some name) }
         ensures none { Finds self.now (map R.named rows.now)
             → IfNone result ((n : ℕ) → slice_get (map R.named rows.now) n ≢ Some name) }
@@ -114,8 +115,9 @@ impl Finder {
     }
 
     /// Takes in the rows from a number on. Where the table is crowded, all are taken in anew, into a greater one.
-    pub(crate) fn add_from<R: Named>(&mut self, rows: &[R], first: usize) -> Result<(), AllocError>
-        requires { length rows.now ≤ 2 ^ 29 }
+    #[inline(always)]
+    pub fn add_from<R: Named>(&mut self, rows: &[R], first: usize) -> Result<(), AllocError>
+        requires { length rows.now < 2 ^ 32 }
         ensures { FindsBelow self.old (map R.named rows.now) first
             → OnOk result (Finds self.new (map R.named rows.now)) }
     {
@@ -137,7 +139,7 @@ impl Finder {
 
     /// Takes in the rows from a number on.
     fn put_from<R: Named>(&mut self, rows: &[R], first: usize) -> Result<(), AllocError>
-        requires { length rows.now ≤ 2 ^ 29 }
+        requires { length rows.now < 2 ^ 32 }
         ensures { FindsBelow self.old (map R.named rows.now) first
             → OnOk result (Finds self.new (map R.named rows.now)) }
     {
@@ -156,7 +158,7 @@ impl Finder {
 
     /// Takes in the row with the name and the number.
     fn put(&mut self, name: u64, number: u32) -> Result<(), AllocError>
-        requires { number < 2 ^ 29 }
+        requires { number + 1 < 2 ^ 32 }
         ensures taken { (names : List ℕ) → slice_get names number ≡ Some name
             → OnOk result (Reaches self.new names name) }
         ensures kept { (names : List ℕ) (other : ℕ) → slice_get names number ≡ Some name

@@ -21,6 +21,7 @@ mod writer;
 
 pub use event::{Anomaly, Event, Key, Listed, TxnId, Version};
 pub use fault::{NoMemory, Reason, TextFault};
+pub use finder::{Finder, IN_ORDER, Named};
 pub use history::History;
 pub use laws::laws_hold;
 pub use limits::Limits;
