@@ -2,8 +2,8 @@
 -- bars it.
 use Rattle.std.specs.Prelude.{◌≡◌, ◌⊎◌, ◌↔◌, ℕ, ◌<◌, ◌≤◌, List, IsTrue, MatchOption, Some, slice_get}
 use Rattle.sia_events.specs.declared.event.Event.{Event}
+use Rattle.sia_events.specs.Numbering.{txns_of}
 use Rattle.sia_index.specs.Info.{IsKeyAt}
-use Rattle.sia_index.specs.Numbers.{IsTxnAt}
 use Rattle.si_audit.specs.SnapshotLines.{IsNeeded}
 use Rattle.si_audit.specs.Snapshots.{AccessesAt, Bars, FitsStart, IsAsked, IsFirst, IsInNone, ReadAsks}
 use Rattle.si_audit.specs.declared.snapshots.Bound.{Bound}
@@ -58,6 +58,6 @@ pub record IsKnownOf (h : List Event) (t : ℕ) (b : Bounds) : Type 0 where
   pub high : IsTrue b.misfit → IsBound (λ c d. c ≤ d) 4294967295 (Bars h t) b.high
   pub first : IsTrue b.misfit → AccessesAt h t b.first × ((q : ℕ) → AccessesAt h t q → b.first ≤ q)
 
--- each transaction's row, by its number, is such
+-- each transaction's row, by its number in the log, is such
 abbrev pub EachTxn : (ℕ → Bounds → Type 0) → List Event → List Bounds → Type 0
-EachTxn Is h all = (i t : ℕ) → IsTxnAt h i t → (b : Bounds) × (slice_get all i ≡ Some b) × Is t b
+EachTxn Is h all = (i t : ℕ) → slice_get (txns_of h) i ≡ Some t → (b : Bounds) × (slice_get all i ≡ Some b) × Is t b

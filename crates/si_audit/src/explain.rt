@@ -146,7 +146,7 @@ pub(crate) fn explained(
     };
     let mut out = Vec::new(alloc);
     push_front(&mut out, Some(&of), j)?;
-    push_snapshots(&mut out, history, ix, &bounds_of(alloc, history, ix, j)?)?;
+    push_snapshots(alloc, &mut out, history, &bounds_of(alloc, history, ix, j)?)?;
     push_whether(&mut out, b"ssi", j.pass, b"pass", b"fail")?;
     push_danger(alloc, &mut out, &of, j, accesses)?;
     push_whether(&mut out, b"serializable", j.serializable, b"yes", b"no")?;

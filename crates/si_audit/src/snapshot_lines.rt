@@ -7,8 +7,9 @@ ghost use Rattle.si_audit.specs.Snapshots.{IsSnapshot};
 
 use crate::snapshots::{Bound, Bounds};
 use sia_events::{Log, NoMemory, Row, push_number};
-use sia_index::Index;
+use sia_index::txns_in_order;
 use sia_parts::push_event;
+use std::alloc::Global;
 
 /// Some words, a commit, and the event by which the snapshot has to have it, or must not have it.
 fn push_bound(out: &mut Vec<u8>, before: &[u8], h: &Log, b: &Bound) -> Result<(), NoMemory>
@@ -47,20 +48,18 @@ fn push_none(out: &mut Vec<u8>, h: &Log, b: &Bounds) -> Result<(), NoMemory>
 
 /// The lines of all transactions, of which so much is known.
 pub(crate) fn push_snapshots(
+    alloc: Global,
     out: &mut Vec<u8>,
     h: &Log,
-    ix: &Index,
     all: &[Bounds],
 ) -> Result<(), NoMemory>
-    requires index { ix.now ≡ h.now }
-    requires bounds { EachTxn (IsKnownOf h.now) h.now all.now }
+    requires { EachTxn (IsKnownOf h.now) h.now all.now }
     ensures { OnOk result ((bytes : List ℕ) × TellsSnapshots h.now bytes
         × (out.new.items ≡ out.old.items ++ bytes)) }
 {
     h.law();
-    let txns = ix.txns();
-    for i in 0..txns.len() {
-        let (name, b) = (u64::from(txns[i]), &all[i]);
+    for row in &txns_in_order(alloc, h)? {
+        let (name, b) = (u64::from(row.name), &all[row.number as usize]);
         if b.misfit && b.fits() {
             push_number(out, b"snapshot ", name, b" from ")?;
             push_number(out, b"", u64::from(b.low.commit), b" to ")?;

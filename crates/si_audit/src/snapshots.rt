@@ -207,27 +207,28 @@ impl Bounds {
 }
 
 /// Which transactions their recorded starts don't fit, and which reads of theirs no snapshot has.
-fn misfits_of(alloc: Global, ix: &Index, j: &Judgement) -> Result<Vec<Bounds>, NoMemory>
-    requires { IsJudgement ix.now j.now }
-    ensures { IfOk result (λ all. EachTxn (λ t. IsKnownTo ix.now t 1) ix.now all.items) }
+fn misfits_of(alloc: Global, log: &Log, ix: &Index, j: &Judgement) -> Result<Vec<Bounds>, NoMemory>
+    requires index { ix.now ≡ log.now }
+    requires judgement { IsJudgement log.now j.now }
+    ensures { IfOk result (λ all. EachTxn (λ t. IsKnownTo log.now t 1) log.now all.items) }
 {
-    ix.law();
-    let mut all = vec![in alloc; UNKNOWN; ix.txns().len()]?;
+    log.law();
+    let mut all = vec![in alloc; UNKNOWN; log.txn_count() as usize]?;
     for b in &j.bad_reads {
-        let number = ix.txn_number(b.txn).unwrap_or(0);
+        let number = ix.txn_number(b.txn).unwrap_or(0) as usize;
         let is_lost = b.due == b.txn || b.saw != 0 && ix.lifetime_of(b.saw).is_none();
         let lost = is_lost.then_some((b.place, b.key));
         all[number].misfit = true;
         all[number].never = all[number].never.or(lost);
     }
     for b in &j.bad_writes {
-        let number = ix.txn_number(b.second).unwrap_or(0);
+        let number = ix.txn_number(b.second).unwrap_or(0) as usize;
         all[number].misfit = true;
     }
     Ok(all)
 }
 
-/// What is known of the snapshots of each transaction, in the order of the index.
+/// What is known of the snapshots of each transaction, by its number in the log.
 pub(crate) fn bounds_of(
     alloc: Global,
     log: &Log,
@@ -239,22 +240,21 @@ pub(crate) fn bounds_of(
     ensures { IfOk result (λ all. EachTxn (IsKnownOf log.now) log.now all.items) }
 {
     log.law();
-    let mut all = misfits_of(alloc, ix, j)?;
-    let numbers = ix.txn_numbers(alloc)?;
+    let mut all = misfits_of(alloc, log, ix, j)?;
     for before in 0..log.len() {
         let place = before + 1;
         if let Some(row) = log.row(place) {
-            let txn = txn_of(row);
-            let number = numbers[txn as usize];
-            if all[number].misfit {
-                let name = log.txn(txn).name;
-                all[number].put_row(log, ix, name, place, row);
+            let number = txn_of(row);
+            if all[number as usize].misfit {
+                let name = log.txn(number).name;
+                all[number as usize].put_row(log, ix, name, place, row);
             }
         }
     }
-    for (i, txn) in ix.txns().iter().enumerate() {
-        if all[i].misfit {
-            all[i].put_writes(ix, *txn);
+    for number in 0..log.txn_count() {
+        if all[number as usize].misfit {
+            let name = log.txn(number).name;
+            all[number as usize].put_writes(ix, name);
         }
     }
     Ok(all)
@@ -273,8 +273,8 @@ pub(crate) fn is_generalized(
 {
     log.law();
     let all = bounds_of(alloc, log, ix, j)?;
-    for i in 0..ix.txns().len() {
-        if !all[i].fits() {
+    for number in 0..log.txn_count() {
+        if !all[number as usize].fits() {
             return Ok(false);
         }
     }

@@ -70,7 +70,7 @@ pub fn judge(
     replay_law();
     ssi_law();
     let judgement = Judgement {
-        counts: counted(log, ix),
+        counts: counted(log),
         bad_reads: found.bad_reads,
         bad_writes: found.bad_writes,
         unexplained: found.unexplained,

@@ -25,10 +25,6 @@ IsLastWithin versions place made = Contains versions made × (made.commit ≤ pl
 abbrev pub AreNumbered : (ℕ → Type 0) → List ℕ → List (Numbered ℕ) → Type 0
 AreNumbered K names rows = ListsBy (λ row. row.name ∷ row.number ∷ []) (λ row. (slice_get names row.number ≡ Some row.name) × K row.name) rows
 
--- the names of the rows, each at the place of its row
-abbrev pub AreNamesOf : List (Numbered ℕ) → List ℕ → Type 0
-AreNamesOf rows names = (length names ≡ length rows) × ((i : ℕ) (d : ℕ) (e : Numbered ℕ) → i < length names → slice_index_or names i d ≡ (slice_index_or rows i e).name)
-
 -- some write event names k
 abbrev pub IsWritten : List Event → ℕ → Type 0
 IsWritten h k = (t : ℕ) × Wrote h t k

@@ -1,11 +1,13 @@
 -- What the tables of an index hold of its history.
-use Rattle.std.specs.Prelude.{◌≡◌, ◌<◌, ◌≤◌, ◌+◌, ℕ, Some, List, [], length, slice_get, slice_index, slice_index_or}
+use Rattle.std.specs.Prelude.{◌≡◌, ◌<◌, ◌≤◌, ◌+◌, ℕ, All, Some, List, [], length, slice_get, slice_index, slice_index_or}
 use Rattle.sia_events.specs.declared.event.Event.{Event}
 use Rattle.sia_events.specs.declared.log.TxnRow.{TxnRow}
+use Rattle.sia_events.specs.Finding.{Finds}
 use Rattle.sia_events.specs.Lists.{ListsAscending}
-use Rattle.sia_events.specs.Numbering.{Ends, txns_of, keys_of}
+use Rattle.sia_events.specs.LogTables.{Lives, txn_names}
+use Rattle.sia_events.specs.Numbering.{txns_of, keys_of}
 use Rattle.sia_events.specs.Refusals.{IsWellFormed}
-use Rattle.sia_events.specs.Transactions.{HasEvent, IsCommitted, StartsAt}
+use Rattle.sia_events.specs.Transactions.{IsCommitted}
 use Rattle.sia_index.specs.Lifetimes.{AreLifetimes}
 use Rattle.sia_index.specs.Lists.{joined}
 use Rattle.sia_index.specs.Minima.{AreMinima}
@@ -33,23 +35,14 @@ pub record AreNumbers (K : ℕ → Type 0) (names listed numbers : List ℕ) : T
   pub each : (q : ℕ) → q < length names → slice_index numbers q < length listed → slice_index listed (slice_index numbers q) ≡ slice_index names q
   pub none : (q : ℕ) → q < length names → length listed ≤ slice_index numbers q → ¬ K (slice_index names q)
 
--- the row is of t: where it starts, and how it ended
-abbrev pub IsTxnRow : List Event → ℕ → TxnRow → Type 0
-IsTxnRow h t row = (row.name ≡ t) × StartsAt h t row.start × Ends h t row.end
-
 -- the row of each transaction stands at its number in the log
 pub record AreTxnRows (h : List Event) (rows : List TxnRow) : Type 0 where
-  pub count : length rows ≡ length (txns_of h)
-  pub right : (i : ℕ) (d : TxnRow) → i < length (txns_of h) → IsTxnRow h (slice_index (txns_of h) i) (slice_index_or rows i d)
-
--- the number in a log of each of the listed names stands at its place
-abbrev pub AreNumbersOf : List ℕ → List ℕ → List ℕ → Type 0
-AreNumbersOf names listed order = (length order ≡ length listed) × ((i d : ℕ) → i < length listed → slice_get names (slice_index_or order i d) ≡ Some (slice_index listed i))
+  pub names : txn_names rows ≡ txns_of h
+  pub lives : All (Lives h) rows
 
 pub record AreTxns (h : List Event) (t : Txns) : Type 0 where
-  pub all : ListsAscending (HasEvent h) t.ids.items
-  pub order : AreNumbersOf (txns_of h) t.ids.items t.order.items
   pub known : AreTxnRows h t.known.items
+  pub found : Finds t.finder (txn_names t.known.items)
   pub committed : AreNumbers (IsCommitted h) (txns_of h) t.committed.items t.committed_numbers.items
   pub lifetimes : AreLifetimes h t.committed.items t.lifetimes.items
 

@@ -1,5 +1,5 @@
 //! An index of a history, and what it answers.
-ghost use Rattle.std.specs.Prelude.{◌≡◌, ◌<◌, ℕ, IfOk, MatchOption, ◌↔◌, IsTrue, List, Some, length, All, slice_get};
+ghost use Rattle.std.specs.Prelude.{◌≡◌, ◌<◌, ℕ, MatchOption, ◌↔◌, IsTrue, List, Some, length, slice_get};
 ghost use Rattle.sia_events.specs.declared.event.Event.{Event};
 ghost use Rattle.sia_events.specs.Lists.{ListsAscending};
 ghost use Rattle.sia_events.specs.Numbering.{names_of, txns_of, txn_at};
@@ -7,7 +7,7 @@ ghost use Rattle.sia_events.specs.Refusals.{IsWellFormed};
 ghost use Rattle.sia_events.specs.Transactions.{HasEvent, IsCommitted, Wrote, Overlap, WroteBefore};
 ghost use Rattle.sia_index.specs.Info.{IsInfo, IsKeyAt, HasKeyAt, AreVersions, AreWrittenKeys, IsFirstWrite, IsReader};
 ghost use Rattle.sia_index.specs.Lifetimes.{AreLifetimes, IsLifetime};
-ghost use Rattle.sia_index.specs.Numbers.{AreTxnNumbers, HasTxnAt, IsTxnAt, IsCommittedAt};
+ghost use Rattle.sia_index.specs.Numbers.{IsCommittedAt};
 ghost use Rattle.sia_index.specs.Positions.{AreAllVersions};
 ghost use Rattle.sia_index.specs.Rows.{IsKeyStretch, PassesNone};
 ghost use Rattle.sia_index.specs.declared.info.KeyVersion.{KeyVersion};
@@ -16,18 +16,17 @@ ghost use Rattle.sia_events.specs.Reads.{IsDue};
 ghost use Rattle.sia_index.specs.Counting.{AreCounts};
 
 use crate::info::{Counts, Fate, Lifetime, Made, Reader, TxnInfo, overlap};
-use crate::keyed::{ByKey, ByPlace, ByTxn, find, place_above, place_from};
+use crate::keyed::{ByKey, ByPlace, find, place_above, place_from};
 use crate::lists::end_at;
 use crate::minima::next_below;
 use crate::names::Keys;
 use crate::txns::{Txns, WriteRow, Writes};
 use crate::versions::Versions;
 use sia_events::{Key, Log, TxnEnd, TxnId, Version};
-use std::alloc::{AllocError, Global};
 use std::marker::Model;
 use std::snapshot::Snapshot;
 
-/// A history, as what is asked of it needs it. No answer but `txn_numbers` takes memory.
+/// A history, as what is asked of it needs it. No answer takes memory.
 #[derive(Drop)]
 pub struct Index {
     pub(crate) of: Snapshot<Log>,
@@ -60,44 +59,11 @@ impl Index {
         let _ = &self.keys;
     }
 
-    /// Each transaction that has an event, ascending.
-    pub fn txns(&self) -> &[TxnId]
-        ensures { ListsAscending (HasEvent self.now) result.now }
+    /// The number of a transaction in the log.
+    pub fn txn_number(&self, t: TxnId) -> Option<u32>
+        ensures { MatchOption result (¬ HasEvent self.now t) (λ n. slice_get (txns_of self.now) n ≡ Some t) }
     {
-        &self.txns.ids
-    }
-
-    /// The number of a transaction among all of them, counted from 0.
-    pub fn txn_number(&self, t: TxnId) -> Option<usize>
-        ensures { MatchOption result (¬ HasEvent self.now t) (λ i. IsTxnAt self.now i t) }
-    {
-        find::<TxnId, ByTxn>(&self.txns.ids, u64::from(t))
-    }
-
-    /// The same of each of the log's transactions, by its number there.
-    pub fn txn_numbers(&self, alloc: Global) -> Result<Vec<usize>, AllocError>
-        ensures { IfOk result (λ numbers. AreTxnNumbers self.now numbers.items) }
-    {
-        let mut numbers = vec![in alloc; 0usize; self.txns.known.len()]?;
-        for (i, txn) in self.txns.order.iter().enumerate() {
-            numbers[*txn as usize] = i;
-        }
-        Ok(numbers)
-    }
-
-    /// What is known of transaction number `i`, counted from 0: no search is needed.
-    pub fn txn_at(&self, i: usize) -> TxnInfo
-        requires { HasTxnAt self.now i }
-        ensures { (t : ℕ) → IsTxnAt self.now i t → IsInfo self.now t result }
-    {
-        let known = self.txns.known[self.txns.order[i] as usize];
-        let start = known.start;
-        let (ended, fate) = match known.end {
-            TxnEnd::Open => (None, Fate::Unfinished),
-            TxnEnd::Committed(place) => (Some(place), Fate::Committed),
-            TxnEnd::Aborted(place) => (Some(place), Fate::Aborted),
-        };
-        TxnInfo { start, ended, fate }
+        self.txns.finder.find(&self.txns.known, u64::from(t))
     }
 
     /// What is known of a transaction.
@@ -105,7 +71,14 @@ impl Index {
         ensures { MatchOption result (¬ HasEvent self.now t) (IsInfo self.now t) }
     {
         let number = self.txn_number(t)?;
-        Some(self.txn_at(number))
+        let known = self.txns.known[number as usize];
+        let start = known.start;
+        let (ended, fate) = match known.end {
+            TxnEnd::Open => (None, Fate::Unfinished),
+            TxnEnd::Committed(place) => (Some(place), Fate::Committed),
+            TxnEnd::Aborted(place) => (Some(place), Fate::Aborted),
+        };
+        Some(TxnInfo { start, ended, fate })
     }
 
     /// When a transaction starts and commits, if it commits.
@@ -197,7 +170,7 @@ impl Index {
         ensures { MatchOption result (¬ Wrote self.now t k) (IsFirstWrite self.now t k) }
     {
         let number = self.txn_number(t)?;
-        self.first_write_at(t, self.txns.order[number], k)
+        self.first_write_at(t, number, k)
     }
 
     /// The same of a transaction whose number in the log is known.
@@ -222,7 +195,7 @@ impl Index {
     {
         let _ = &self.of;
         let number = self.txn_number(t).unwrap_or(0);
-        self.reader_at(self.txns.order[number], place)
+        self.reader_at(number, place)
     }
 
     /// The same of the log's transaction: no search is needed.
@@ -289,23 +262,21 @@ impl Index {
 }
 
 /// The counts of the history that the log is of.
-pub fn counted(h: &Log, ix: &Index) -> Counts
-    requires { ix.now ≡ h.now }
-    ensures { AreCounts h.now result }
+pub fn counted(log: &Log) -> Counts
+    ensures { AreCounts log.now result }
 {
-    ix.law();
+    log.law();
     let mut counts = Counts {
-        events: h.len(),
+        events: log.len(),
         committed: 0,
         aborted: 0,
         unfinished: 0,
     };
-    let txns = ix.txns();
-    for (i, _) in txns.iter().enumerate() {
-        match ix.txn_at(i).fate {
-            Fate::Committed => counts.committed += 1,
-            Fate::Aborted => counts.aborted += 1,
-            Fate::Unfinished => counts.unfinished += 1,
+    for number in 0..log.txn_count() {
+        match log.txn(number).end {
+            TxnEnd::Open => counts.unfinished += 1,
+            TxnEnd::Committed(_) => counts.committed += 1,
+            TxnEnd::Aborted(_) => counts.aborted += 1,
         }
     }
     counts

@@ -15,3 +15,5 @@ mod versions;
 
 pub use index::{Index, counted};
 pub use info::{Counts, Fate, KeyVersion, Lifetime, Made, Reader, TxnInfo, WriteAt, overlap};
+pub use names::Numbered;
+pub use txns::txns_in_order;

@@ -1,6 +1,8 @@
 //! The tables of transactions and of write events.
-ghost use Rattle.std.specs.Prelude.{IfOk, length};
-ghost use Rattle.sia_index.specs.Rows.{AreNamesOf, IsColumn};
+ghost use Rattle.std.specs.Prelude.{◌≡◌, All, IfOk, Some, map, slice_get};
+ghost use Rattle.sia_events.specs.Lists.{ListsAscending};
+ghost use Rattle.sia_events.specs.Numbering.{txns_of};
+ghost use Rattle.sia_events.specs.Transactions.{HasEvent};
 ghost use Rattle.sia_index.specs.Tables.{AreTxns, AreWriteTables};
 
 use crate::info::Lifetime;
@@ -9,16 +11,15 @@ use crate::lists::Lists;
 use crate::minima::minima_of;
 use crate::names::{ByName, Numbered, places_of};
 use crate::ordering::Sorter;
-use sia_events::{Key, Log, Row, TxnEnd, TxnId, TxnRow};
+use sia_events::{Finder, IN_ORDER, Key, Log, Row, TxnEnd, TxnId, TxnRow};
 use std::alloc::{AllocError, Global};
 
-/// Every transaction once, ascending, and every committed one, with its lifetime beside it. `order` has for each place among all the
-/// number in the log. By these numbers stand what is known of each, and its place among the committed ones, or one behind them all.
+/// What is known of each transaction, by its number in the log, with what finds that number by name. Every committed one once,
+/// ascending, with its lifetime beside it, and by each number its place among these, or one behind them all.
 #[derive(Drop)]
 pub struct Txns {
-    pub ids: Vec<TxnId>,
-    pub order: Vec<u32>,
     pub known: Vec<TxnRow>,
+    pub finder: Finder,
     pub committed: Vec<TxnId>,
     pub lifetimes: Vec<Lifetime>,
     pub committed_numbers: Vec<u32>,
@@ -34,48 +35,49 @@ pub fn txns_of(alloc: Global, log: &Log) -> Result<Txns, AllocError>
     let mut rows = Vec::with_capacity(alloc, count as usize)?;
     for number in 0..count {
         let row = log.txn(number);
-        let name = row.name;
+        if let TxnEnd::Committed(_) = row.end {
+            let name = row.name;
+            rows.push(Numbered { name, number })?;
+        }
         known.push(row)?;
-        rows.push(Numbered { name, number })?;
     }
     // Mostly the numbers are in the order of the names.
     Sorter::with_capacity(alloc, rows.len())?.sort::<ByName>(&mut rows);
-    let (ids, order) = columns_of(alloc, &rows)?;
-    let mut ended = Vec::with_capacity(alloc, rows.len())?;
     let mut committed = Vec::with_capacity(alloc, rows.len())?;
     let mut lifetimes = Vec::with_capacity(alloc, rows.len())?;
     for row in &rows {
         let txn = log.txn(row.number);
         if let TxnEnd::Committed(commit) = txn.end {
             let start = txn.start;
-            ended.push(*row)?;
             committed.push(txn.name)?;
             lifetimes.push(Lifetime { start, commit })?;
         }
     }
-    let committed_numbers = places_of(alloc, count, &ended)?;
+    let committed_numbers = places_of(alloc, count, &rows)?;
+    let mut finder = Finder::new(alloc, IN_ORDER);
+    finder.add_from(&known, 0)?;
     Ok(Txns {
-        ids,
-        order,
         known,
+        finder,
         committed,
         lifetimes,
         committed_numbers,
     })
 }
 
-/// The names of the rows, and beside each its number.
-fn columns_of(alloc: Global, rows: &[Numbered<TxnId>]) -> Result<(Vec<TxnId>, Vec<u32>), AllocError>
-    ensures names { IfOk result (λ r. AreNamesOf rows.now r.0.items) }
-    ensures numbers { IfOk result (λ r. IsColumn (λ row. row.number) rows.now (length rows.now) r.1.items) }
+/// All transactions of the log by name, each with its number.
+pub fn txns_in_order(alloc: Global, log: &Log) -> Result<Vec<Numbered<TxnId>>, AllocError>
+    ensures names { IfOk result (λ rows. ListsAscending (HasEvent log.now) (map (λ row. row.name) rows.items)) }
+    ensures numbers { IfOk result (λ rows. All (λ row. slice_get (txns_of log.now) row.number
+        ≡ Some row.name) rows.items) }
 {
-    let mut names = Vec::with_capacity(alloc, rows.len())?;
-    let mut numbers = Vec::with_capacity(alloc, rows.len())?;
-    for row in rows {
-        names.push(row.name)?;
-        numbers.push(row.number)?;
+    let mut rows = Vec::with_capacity(alloc, log.txn_count() as usize)?;
+    for number in 0..log.txn_count() {
+        let name = log.txn(number).name;
+        rows.push(Numbered { name, number })?;
     }
-    Ok((names, numbers))
+    Sorter::with_capacity(alloc, rows.len())?.sort::<ByName>(&mut rows);
+    Ok(rows)
 }
 
 /// A write event: its key, its place, and the number of its transaction in the log.

@@ -1,15 +1,14 @@
 -- The row of each transaction, and that its recorded start fits it where the row says so.
-use Rattle.std.proofs.Common.{◌≡◌, inl, inr, ℕ, ◌<◌, ◌≤◌, List, false, length, get_or, refl, sym, subst, ◌∙◌}
-use Rattle.std.specs.Prelude.{slice_index}
+use Rattle.std.proofs.Common.{◌≡◌, inl, inr, ℕ, ◌<◌, ◌≤◌, List, Some, false, length, get_or, slice_get, sym, subst, ◌∙◌}
 use Rattle.std.proofs.lemmas.Bool.{false≢true}
-use Rattle.std.proofs.lemmas.List.Elements.{Contains-get_or}
 use Rattle.std.proofs.lemmas.Option.{get_or_from_slice_get, slice_get_within}
 use Rattle.sia_events.specs.declared.event.Event.{Event}
-use Rattle.sia_events.specs.Lists.{ListsAscending}
 use Rattle.sia_events.specs.declared.event.Event.TheVariants.{Write}
+use Rattle.sia_events.specs.Numbering.{txns_of}
 use Rattle.sia_events.specs.Refusals.{IsWellFormed}
 use Rattle.sia_events.specs.Transactions.{HasEvent}
 use Rattle.sia_events.proofs.Shared.TransactionDecisions.{place_within}
+use Rattle.sia_index.proofs.Shared.LogNames.{numbered_has_event}
 use Rattle.si_audit.specs.Bounds.{EachTxn, IsKnownOf}
 use Rattle.si_audit.specs.Snapshots.{AccessesAt, Fits, FitsStart, IsSnapshot}
 use Rattle.si_audit.specs.declared.snapshots.Bounds.{Bounds}
@@ -24,11 +23,10 @@ pub idle_fits : (h : List Event) (t n : ℕ) → ((p : ℕ) → ¬ AccessesAt h 
 idle_fits h t n none = record { reads = λ p k v saw. absurd (none p (k, inr (v, saw))); writes = λ k u c d own other less. absurd (none own.0.0 (k, inl own.0.1)) }
 
 -- each transaction's row is there
-pub row_known : (h : List Event) (all : List Bounds) → EachTxn (IsKnownOf h) h all → (txns : List ℕ) → ListsAscending (HasEvent h) txns → (i : ℕ) → i < length txns → (d : Bounds) → (i < length all) × HasEvent h (slice_index txns i) × IsKnownOf h (slice_index txns i) (get_or all i d)
-row_known h all each txns are i below d =
-    let t = slice_index txns i in
-    let row = each i t (txns, are, below, refl) in
-    (slice_get_within all i row.0 row.1, (are.each t).0 (Contains-get_or txns i 0 below), subst (IsKnownOf h t) (sym (get_or_from_slice_get all i row.0 d row.1)) row.2)
+pub row_known : (h : List Event) (all : List Bounds) → EachTxn (IsKnownOf h) h all → (i t : ℕ) → slice_get (txns_of h) i ≡ Some t → (d : Bounds) → (i < length all) × HasEvent h t × IsKnownOf h t (get_or all i d)
+row_known h all each i t at d =
+    let row = each i t at in
+    (slice_get_within all i row.0 row.1, numbered_has_event h i t at, subst (IsKnownOf h t) (sym (get_or_from_slice_get all i row.0 d row.1)) row.2)
 
 module _ (h : List Event) (wf : IsWellFormed h) (t : ℕ) (b : Bounds) (known : IsKnownOf h t b) where
   -- its recorded start fits

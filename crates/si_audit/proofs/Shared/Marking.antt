@@ -1,15 +1,16 @@
 -- What the bad reads and bad writes, as they are gone over, say of each transaction.
-use Rattle.std.proofs.Common.{◌≡◌, ◌≢◌, ◌⊎◌, inl, inr, ℕ, ◌<◌, ◌≤◌, List, [], ◌∷◌, ◌++◌, Bool, Option, replicate, Some, None, true, false, length, get_or, set, take, refl, ap, sym, subst, ◌∙◌, arith}
-use Rattle.std.specs.Prelude.{◌↔◌, AllPairs, IsTrue, MatchOption, Contains, is_some, not, slice_index, ⊤}
+use Rattle.std.proofs.Common.{◌≡◌, ◌≢◌, ◌⊎◌, inl, inr, ℕ, ◌<◌, ◌≤◌, List, [], ◌∷◌, ◌++◌, Bool, Option, replicate, Some, None, true, false, length, get_or, slice_get, set, take, refl, ap, sym, subst, ◌∙◌, arith}
+use Rattle.std.specs.Prelude.{◌↔◌, AllPairs, IsTrue, MatchOption, Contains, is_some, not, ⊤}
 use Rattle.std.specs.Bool.{then_some}
 use Rattle.std.specs.Option.{option_or}
 use Rattle.std.proofs.lemmas.Bool.{both_ways, cases_eq, false≢true, not-false, not_from_true, true_from_ne_false, true≢false}
 use Rattle.std.proofs.lemmas.List.{get_or-replicate, get_or-set_other, get_or-set_same, get_or-take, get_or_default, length-replicate, length-set, length-take}
-use Rattle.std.proofs.lemmas.List.Elements.{Contains-append_left, Contains-get_or, Contains-push, Contains-push_cases}
-use Rattle.std.proofs.lemmas.Option.{slice_get-get_or}
+use Rattle.std.proofs.lemmas.List.Elements.{Contains-append_left, Contains-push, Contains-push_cases}
+use Rattle.std.proofs.lemmas.Option.{slice_get-get_or, slice_get_within}
 use Rattle.sia_events.specs.declared.event.Event.{Event}
 use Rattle.sia_events.specs.Isolation.{IsBadRead, IsBadWrite}
-use Rattle.sia_events.specs.Lists.{ListsAscending, Precedes}
+use Rattle.sia_events.specs.Lists.{Precedes}
+use Rattle.sia_events.specs.Numbering.{txns_of}
 use Rattle.sia_events.specs.Reads.{IsDue, SawAt}
 use Rattle.sia_events.specs.Refusals.{IsWellFormed}
 use Rattle.sia_events.specs.Transactions.{HasEvent, IsCommitted, WroteBefore}
@@ -17,12 +18,10 @@ use Rattle.sia_events.proofs.OfLaws.Anomalies.{due_wrote_before, wrote_before_du
 use Rattle.sia_events.proofs.OfLaws.Due.{has_due, one_due}
 use Rattle.sia_events.proofs.OfLaws.Seen.{saw_written}
 use Rattle.sia_events.proofs.Shared.TransactionDecisions.{place_within}
-use Rattle.sia_events.proofs.Worked.OneList.{one_list_by}
 use Rattle.sia_index.specs.declared.info.Lifetime.{Lifetime}
 use Rattle.sia_index.specs.Lifetimes.{IsLifetime}
-use Rattle.sia_index.specs.Numbers.{IsTxnAt}
-use Rattle.sia_index.proofs.Shared.NumberedNames.{its_number, one_place}
-use Rattle.sia_index.proofs.Shared.Ordered.{ascends}
+use Rattle.sia_index.proofs.Shared.LogNames.{numbered_has_event, txns_stand_once}
+use Rattle.sia_index.proofs.Shared.NumberedNames.{same_some}
 use Rattle.sia_parts.specs.declared.finding.BadRead.{BadRead}
 use Rattle.sia_parts.specs.declared.finding.BadWrite.{BadWrite}
 use Rattle.sia_parts.specs.Entries.{bad_read_rank}
@@ -70,10 +69,10 @@ pub record IsTold (h : List Event) (reads : List BadRead) (writes : List BadWrit
   pub high : b.high ≡ unknown.high
   pub first : b.first ≡ 0
 
--- of each of these transactions
-pub record AreTold (h : List Event) (ids : List ℕ) (reads : List BadRead) (writes : List BadWrite) (all : List Bounds) : Type 0 where
-  pub long : length all ≡ length ids
-  pub each : (i : ℕ) → i < length ids → IsTold h reads writes (slice_index ids i) (get_or all i unknown)
+-- of each transaction, by its number in the log
+pub record AreTold (h : List Event) (reads : List BadRead) (writes : List BadWrite) (all : List Bounds) : Type 0 where
+  pub long : length all ≡ length (txns_of h)
+  pub each : (i t : ℕ) → slice_get (txns_of h) i ≡ Some t → IsTold h reads writes t (get_or all i unknown)
 
 pub told_none : (h : List Event) (t : ℕ) → IsTold h [] [] t unknown
 told_none h t = record {
@@ -90,14 +89,11 @@ unknown_or_none h t None b is not_there = ((λ e. not_there), (λ n. not-false b
 unknown_or_none h t (Some l) b is there = ((λ e. absurd (true≢false (is ∙ not_from_true b e))), (λ n. absurd (n (l.commit, there.1))))
 
 -- at first
-pub told_first : (h : List Event) (ids txns : List ℕ) → ListsAscending (HasEvent h) ids → ListsAscending (HasEvent h) txns → (all : List Bounds) → all ≡ replicate (length txns) unknown → AreTold h ids [] [] all
-told_first h ids txns are also all same =
-    let one : txns ≡ ids = one_list_by (λ t. t ∷ []) (HasEvent h) txns ids also are in
-    let alike : all ≡ replicate (length ids) unknown = same ∙ ap (λ (l : List ℕ). replicate (length l) unknown) one in
-    record {
-      long = ap length alike ∙ length-replicate (length ids) unknown;
-      each = λ i inside. subst (IsTold h [] [] (slice_index ids i)) (sym (ap (λ (l : List Bounds). get_or l i unknown) alike ∙ get_or-replicate (length ids) i unknown unknown inside)) (told_none h (slice_index ids i));
-    }
+pub told_first : (h : List Event) (n : ℕ) → n ≡ length (txns_of h) → (all : List Bounds) → all ≡ replicate n unknown → AreTold h [] [] all
+told_first h n long all same = record {
+  long = ap length same ∙ length-replicate n unknown ∙ long;
+  each = λ i t at. subst (IsTold h [] [] t) (sym (ap (λ (l : List Bounds). get_or l i unknown) same ∙ get_or-replicate n i unknown unknown (let below = slice_get_within (txns_of h) i t at in omega arith))) (told_none h t);
+}
 
 -- bad reads before one in the list are of an earlier place or key
 pub earlier_reads : (reads : List BadRead) → AllPairs (λ x y. Precedes (bad_read_rank x) (bad_read_rank y)) reads → (k : ℕ) → k < length reads → (d s : BadRead) → Contains (take k reads) s → (s.place < (get_or reads k d).place) ⊎ ((s.place ≡ (get_or reads k d).place) × (s.key < (get_or reads k d).key))
@@ -233,46 +229,34 @@ module _ (h : List Event) (reads : List BadRead) (writes : List BadWrite) (w : B
     first = told.first;
   }
 
--- a row is changed
-module _ (h : List Event) (ids : List ℕ) (are : ListsAscending (HasEvent h) ids) (n t : ℕ) (at : IsTxnAt h n t) where
-  pub number_inside : n < length ids
-  number_inside = (its_number (HasEvent h) ids are n t at).0
-
-  -- each other row is of another transaction
-  module _ (reads more_reads : List BadRead) (writes more_writes : List BadWrite) (all : List Bounds) (told : AreTold h ids reads writes all) (new : Bounds)
-      (other : (u : ℕ) (b : Bounds) → t ≢ u → IsTold h reads writes u b → IsTold h more_reads more_writes u b)
-      (own : IsTold h reads writes t (get_or all n unknown) → IsTold h more_reads more_writes t new) where
-    told_more : AreTold h ids more_reads more_writes (set all n new)
-    told_more = record { long = length-set all n new ∙ told.long; each = λ i inside. row i inside (cases_eq i n) }
-      where
-        number : (n < length ids) × (slice_index ids n ≡ t)
-        number = its_number (HasEvent h) ids are n t at
-
-        row : (i : ℕ) → i < length ids → (i ≡ n) ⊎ (i ≢ n) → IsTold h more_reads more_writes (slice_index ids i) (get_or (set all n new) i unknown)
-        row i inside (inl same) =
-            let here : get_or (set all n new) n unknown ≡ new = get_or-set_same all n new unknown (let long = told.long in let below = number.0 in omega arith) in
-            let name : slice_index ids n ≡ t = number.1 in
-            let old = subst (λ u. IsTold h reads writes u (get_or all n unknown)) name (told.each n number.0) in
-            subst (λ j. IsTold h more_reads more_writes (slice_index ids j) (get_or (set all n new) j unknown)) (sym same)
-            (subst (λ b. IsTold h more_reads more_writes (slice_index ids n) b) (sym here) (subst (λ u. IsTold h more_reads more_writes u new) (sym name) (own old)))
-        row i inside (inr differ) =
-            let there : get_or (set all n new) i unknown ≡ get_or all i unknown = get_or-set_other all n i new unknown differ in
-            subst (λ b. IsTold h more_reads more_writes (slice_index ids i) b) (sym there)
-            (other (slice_index ids i) (get_or all i unknown)
-            (λ same. differ (one_place ids (ascends (λ (x : ℕ). x) (HasEvent h) ids are) i n inside number.0 (sym same ∙ sym number.1))) (told.each i inside))
+-- a row is changed, and each other row is of another transaction
+told_more : (h : List Event) (n t : ℕ) → slice_get (txns_of h) n ≡ Some t → (reads more_reads : List BadRead) (writes more_writes : List BadWrite) (all : List Bounds) → AreTold h reads writes all → (new : Bounds)
+    → ((u : ℕ) (b : Bounds) → t ≢ u → IsTold h reads writes u b → IsTold h more_reads more_writes u b) → (IsTold h reads writes t (get_or all n unknown) → IsTold h more_reads more_writes t new) → AreTold h more_reads more_writes (set all n new)
+told_more h n t at reads more_reads writes more_writes all told new other own = record {
+  long = length-set all n new ∙ told.long;
+  each = λ i u is. elim (cases_eq i n) [
+    | inl same ↦
+        let name : t ≡ u = same_some t u (sym at ∙ ap (slice_get (txns_of h)) (sym same) ∙ is) in
+        let here : get_or (set all n new) n unknown ≡ new = get_or-set_same all n new unknown (let below = slice_get_within (txns_of h) n t at in omega (arith, told.long)) in
+        subst (λ j. IsTold h more_reads more_writes u (get_or (set all n new) j unknown)) (sym same) (subst (IsTold h more_reads more_writes u) (sym here) (subst (λ v. IsTold h more_reads more_writes v new) name (own (told.each n t at))))
+    | inr differ ↦
+        subst (IsTold h more_reads more_writes u) (sym (get_or-set_other all n i new unknown differ))
+        (other u (get_or all i unknown) (λ same. differ (txns_stand_once h i n t (subst (λ v. slice_get (txns_of h) i ≡ Some v) (sym same) is) at)) (told.each i u is))
+  ];
+}
 
 -- the next bad read, and the next bad write
-pub told_read : (h : List Event) (ids : List ℕ) → ListsAscending (HasEvent h) ids → (n : ℕ) (reads : List BadRead) (writes : List BadWrite) (all : List Bounds) (r : BadRead) (is : Bool) (new : Bounds) → IsTxnAt h n r.txn
-    → ((s : BadRead) → Contains reads s → (s.place < r.place) ⊎ ((s.place ≡ r.place) × (s.key < r.key))) → TakesRead h r is (get_or all n unknown) new → AreTold h ids reads writes all → AreTold h ids (reads ++ r ∷ []) writes (set all n new)
-told_read h ids are n reads writes all r is new at behind takes told =
-    told_more h ids are n r.txn at reads (reads ++ r ∷ []) writes writes all told new
+pub told_read : (h : List Event) (n : ℕ) (reads : List BadRead) (writes : List BadWrite) (all : List Bounds) (r : BadRead) (is : Bool) (new : Bounds) → slice_get (txns_of h) n ≡ Some r.txn
+    → ((s : BadRead) → Contains reads s → (s.place < r.place) ⊎ ((s.place ≡ r.place) × (s.key < r.key))) → TakesRead h r is (get_or all n unknown) new → AreTold h reads writes all → AreTold h (reads ++ r ∷ []) writes (set all n new)
+told_read h n reads writes all r is new at behind takes told =
+    told_more h n r.txn at reads (reads ++ r ∷ []) writes writes all told new
     (λ u b other is. read_of_other h reads writes r u b is other)
     (λ before. read_of_own h reads writes r r.txn (get_or all n unknown) before refl behind is new takes)
 
-pub told_write : (h : List Event) (ids : List ℕ) → ListsAscending (HasEvent h) ids → (n : ℕ) (reads : List BadRead) (writes : List BadWrite) (all : List Bounds) (w : BadWrite) → IsTxnAt h n w.second
-    → AreTold h ids reads writes all → AreTold h ids reads (writes ++ w ∷ []) (set all n (record (get_or all n unknown) { misfit = true }))
-told_write h ids are n reads writes all w at told =
-    told_more h ids are n w.second at reads reads writes (writes ++ w ∷ []) all told (record (get_or all n unknown) { misfit = true })
+pub told_write : (h : List Event) (n : ℕ) (reads : List BadRead) (writes : List BadWrite) (all : List Bounds) (w : BadWrite) → slice_get (txns_of h) n ≡ Some w.second
+    → AreTold h reads writes all → AreTold h reads (writes ++ w ∷ []) (set all n (record (get_or all n unknown) { misfit = true }))
+told_write h n reads writes all w at told =
+    told_more h n w.second at reads reads writes (writes ++ w ∷ []) all told (record (get_or all n unknown) { misfit = true })
     (λ u b other is. write_of_other h reads writes w u b is other)
     (λ is. write_of_own h reads writes w w.second (get_or all n unknown) is refl)
 
@@ -360,11 +344,9 @@ module _ (h : List Event) (wf : IsWellFormed h) (reads : List BadRead) (writes :
   }
 
 -- so each row is known
-pub known_all : (h : List Event) → IsWellFormed h → (reads : List BadRead) (writes : List BadWrite) → ListsBadReads h (λ _. ⊤) reads → ListsBadWrites h (λ _. ⊤) writes → (ids : List ℕ) → ListsAscending (HasEvent h) ids → (all : List Bounds) → AreTold h ids reads writes all → EachTxn (λ t. IsKnownTo h t 1) h all
-known_all h wf reads writes bad_reads bad_writes ids are all told i t at =
-    let number = its_number (HasEvent h) ids are i t at in
-    let has : HasEvent h t = (are.each t).0 (subst (Contains ids) number.1 (Contains-get_or ids i 0 number.0)) in (
-      get_or all i unknown,
-      slice_get-get_or all i unknown (let long = told.long in let below = number.0 in omega arith),
-      known_first h wf reads writes bad_reads bad_writes t has (get_or all i unknown) (subst (λ u. IsTold h reads writes u (get_or all i unknown)) number.1 (told.each i number.0)),
-    )
+pub known_all : (h : List Event) → IsWellFormed h → (reads : List BadRead) (writes : List BadWrite) → ListsBadReads h (λ _. ⊤) reads → ListsBadWrites h (λ _. ⊤) writes → (all : List Bounds) → AreTold h reads writes all → EachTxn (λ t. IsKnownTo h t 1) h all
+known_all h wf reads writes bad_reads bad_writes all told i t at = (
+  get_or all i unknown,
+  slice_get-get_or all i unknown (let below = slice_get_within (txns_of h) i t at in omega (arith, told.long)),
+  known_first h wf reads writes bad_reads bad_writes t (numbered_has_event h i t at) (get_or all i unknown) (told.each i t at),
+)

@@ -3,14 +3,15 @@ use Rattle.std.proofs.Common.{slice_get, ◌≡◌, ◌≢◌, ℕ, ◌+◌, ◌
 use Rattle.std.specs.List.{AllWithin}
 use Rattle.std.specs.Prelude.{slice_index_or, slice_range}
 use Rattle.std.proofs.lemmas.Bool.{cases_lt}
-use Rattle.std.proofs.lemmas.List.{get_or_default}
+use Rattle.std.proofs.lemmas.List.{get_or-map, get_or_default, length-map}
 use Rattle.std.proofs.lemmas.List.Edits.{length-between, get_or-between}
 use Rattle.std.proofs.lemmas.List.Elements.{Contains-get_or}
 use Rattle.std.proofs.lemmas.Option.{get_or_from_slice_get, slice_get_within}
 use Rattle.sia_events.specs.declared.event.Event.{Event}
 use Rattle.sia_events.specs.declared.log.TxnRow.{TxnRow}
-use Rattle.sia_events.specs.Numbering.{txns_of}
-use Rattle.sia_events.specs.Transactions.{WritesAt, Wrote, WroteBefore}
+use Rattle.sia_events.specs.LogTables.{Lives, txn_names}
+use Rattle.sia_events.specs.Numbering.{Ends, txns_of}
+use Rattle.sia_events.specs.Transactions.{StartsAt, WritesAt, Wrote, WroteBefore}
 use Rattle.sia_index.specs.declared.names.Keys.{Keys}
 use Rattle.sia_index.specs.declared.txns.Txns.{Txns}
 use Rattle.sia_index.specs.declared.txns.WriteRow.{WriteRow}
@@ -18,27 +19,23 @@ use Rattle.sia_index.specs.declared.txns.Writes.{Writes}
 use Rattle.sia_index.specs.declared.versions.Versions.{Versions}
 use Rattle.sia_index.specs.Info.{IsFirstWrite}
 use Rattle.sia_index.specs.Minima.{IsNextBelow}
-use Rattle.sia_index.specs.Numbers.{IsTxnAt}
 use Rattle.sia_index.specs.Rows.{AreWritesOf, PassesNone}
-use Rattle.sia_index.specs.Tables.{AreTables, IsTxnRow}
-use Rattle.sia_index.proofs.Shared.NumberedNames.{its_number}
+use Rattle.sia_index.specs.Tables.{AreTables}
 use Rattle.sia_index.proofs.Sorting.Points.{PointBelow, PointWithin, point_below, point_from, point_within, point_above}
 
--- the number in the log of transaction number i among all
-pub its_order : (g h : List Event) → g ≡ h → (txns : Txns) (keys : Keys) (versions : Versions) (writes : Writes) → AreTables g txns keys versions writes → (i t : ℕ) → IsTxnAt h i t → (i < length txns.order.items) × ((n : ℕ) → n ≡ slice_index_or txns.order.items i n → slice_get (txns_of h) n ≡ Some t)
-its_order g h same txns keys versions writes are i t at =
-    let all = subst (λ h. AreTables h txns keys versions writes) same are in
-    let number = its_number _ _ all.txns_are.all i t at in
-    let order = all.txns_are.order in
-    (omega (arith, order.0, number.0), λ n is. subst (λ m. slice_get (txns_of h) m ≡ Some t) (sym is) (subst (λ u. slice_get (txns_of h) (slice_index_or txns.order.items i n) ≡ Some u) number.1 (order.1 i n number.0)))
-
 -- what is known of the log's transaction number n
-pub own_row : (g h : List Event) → g ≡ h → (txns : Txns) (keys : Keys) (versions : Versions) (writes : Writes) → AreTables g txns keys versions writes → (n t : ℕ) → slice_get (txns_of h) n ≡ Some t → (n < length txns.known.items) × ((row : TxnRow) → row ≡ slice_index_or txns.known.items n row → IsTxnRow h t row)
+pub own_row : (g h : List Event) → g ≡ h → (txns : Txns) (keys : Keys) (versions : Versions) (writes : Writes) → AreTables g txns keys versions writes → (n t : ℕ) → slice_get (txns_of h) n ≡ Some t
+    → (n < length txns.known.items) × ((row : TxnRow) → row ≡ slice_index_or txns.known.items n row → (row.name ≡ t) × StartsAt h t row.start × Ends h t row.end)
 own_row g h same txns keys versions writes are n t at =
-    let all = subst (λ h. AreTables h txns keys versions writes) same are in
-    let within = slice_get_within (txns_of h) n t at in
-    let known = all.txns_are.known in
-    (omega (arith, known.count), λ row is. subst (IsTxnRow h t) (sym is) (subst (λ u. IsTxnRow h u (slice_index_or txns.known.items n row)) (get_or_from_slice_get (txns_of h) n t 0 at) (known.right n row within)))
+    let known = (subst (λ h. AreTables h txns keys versions writes) same are).txns_are.known in
+    let named : slice_get (txn_names txns.known.items) n ≡ Some t = subst (λ names. slice_get names n ≡ Some t) (sym known.names) at in
+    let within : n < length txns.known.items = let inside = slice_get_within (txn_names txns.known.items) n t named in let long = length-map txns.known.items (λ (row : TxnRow). row.name) in omega arith in (
+      within,
+      λ row is.
+          let name : row.name ≡ t = ap (λ (row : TxnRow). row.name) is ∙ sym (get_or-map (λ (row : TxnRow). row.name) txns.known.items n row 0 within) ∙ get_or_from_slice_get (txn_names txns.known.items) n t 0 named in
+          let lives : Lives h row = subst (Lives h) (sym is) (known.lives n row within) in
+          (name, subst (λ u. StartsAt h u row.start) name lives.0, subst (λ u. Ends h u row.end) name lives.1),
+    )
 
 -- list number n has the writes of the log's transaction number n
 pub own_rows : (g h : List Event) → g ≡ h → (txns : Txns) (keys : Keys) (versions : Versions) (writes : Writes) → AreTables g txns keys versions writes → (n t : ℕ) → slice_get (txns_of h) n ≡ Some t → (n < length writes.by_txn) × AreWritesOf h t n (slice_index_or writes.by_txn n [])

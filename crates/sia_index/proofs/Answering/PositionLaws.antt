@@ -1,5 +1,5 @@
 -- What the tables of versions say of positions.
-use Rattle.std.proofs.Common.{◌≡◌, ◌⊎◌, ◌↔◌, inl, inr, ℕ, zero, suc, ◌+◌, ◌-◌, ◌<◌, ◌≤◌, List, [], ◌∷◌, length, ltb, map, Bool, true, false, Option, None, Some, refl, sym, subst, ◌∙◌, ap, arith, slice_get}
+use Rattle.std.proofs.Common.{◌≡◌, ◌⊎◌, ◌↔◌, inl, inr, ℕ, zero, suc, ◌+◌, ◌-◌, ◌<◌, ◌≤◌, List, [], ◌∷◌, length, ltb, map, Bool, true, false, Option, Some, refl, sym, subst, ◌∙◌, ap, arith, slice_get}
 use Rattle.std.specs.Bool.{then_some}
 use Rattle.std.specs.Prelude.{AllPairs, MatchOption, slice_index, slice_index_or, slice_range}
 use Rattle.std.proofs.lemmas.Bool.{cases_lt, cases_eq, ltb-false, ltb-true}

@@ -1,106 +1,134 @@
--- The transactions of a history, counted by how they ended, one after another.
-use Rattle.std.proofs.Common.{◌≡◌, ◌≢◌, ℕ, ◌+◌, ◌<◌, ◌≤◌, List, [], ◌∷◌, ◌++◌, Some, zero, suc, length, map, take, slice_index_or, inl, inr, ap, ◌∙◌, arith, length-append, eqb}
-use Rattle.std.specs.Prelude.{true, AllPairs, Contains}
-use Rattle.std.specs.Cmp.{nat_eq_equiv, unsigned_Decides}
-use Rattle.std.specs.List.{IsDistinct}
-use Rattle.std.specs.Set.{is_member}
-use Rattle.std.proofs.lemmas.List.{get_or-map, length-map}
-use Rattle.std.proofs.lemmas.Map.Made.{IsDistinct-from_AllPairs, length-le_from_is_member, is_member-Decides}
-use Rattle.std.proofs.lemmas.Option.{slice_get_within, get_or_from_slice_get}
+-- The transactions of a log, counted by how they ended, one after another.
+use Rattle.std.proofs.Common.{◌≡◌, ◌⊎◌, inl, inr, ℕ, zero, suc, ◌+◌, ◌<◌, ◌≤◌, List, [], ◌∷◌, Some, length, slice_get, refl, ap, sym, subst, ◌∙◌, arith}
+use Rattle.std.specs.Prelude.{◌↔◌, All, AllPairs, Contains, slice_index_or}
+use Rattle.std.proofs.lemmas.Bool.{cases_eq, cases_lt}
+use Rattle.std.proofs.lemmas.List.Elements.{Contains-get_or}
+use Rattle.std.proofs.lemmas.List.Kept.{AllPairs-cons}
+use Rattle.std.proofs.lemmas.Option.{slice_get_within}
 use Rattle.sia_events.specs.declared.event.Event.{Event}
-use Rattle.sia_events.specs.Places.{at_place}
-use Rattle.sia_events.specs.Events.{actor}
-use Rattle.sia_events.specs.Lists.{ListsAscending, CountsAll}
-use Rattle.sia_events.specs.Refusals.{IsWellFormed}
+use Rattle.sia_events.specs.Lists.{CountsAll, Precedes}
+use Rattle.sia_events.specs.Numbering.{txns_of}
 use Rattle.sia_events.specs.Transactions.{HasEvent}
-use Rattle.sia_index.specs.declared.info.Fate.{Fate}
-use Rattle.sia_index.specs.declared.info.Fate.TheVariants.{Committed, Aborted, Unfinished}
-use Rattle.sia_index.specs.Counting.{EndedSo}
-use Rattle.sia_index.proofs.Shared.Fates.{one_fate, ended_has_event}
-use Rattle.sia_index.proofs.Answering.KeptTransactions.{Rises, AreKept, kept_next, skipped_next, kept_of_all}
+use Rattle.sia_index.proofs.Shared.LogNames.{event_has_number, txns_stand_once}
+use Rattle.sia_index.proofs.Shared.NumberedNames.{same_some}
 
--- so many of the first n transactions ended so
-abbrev pub HasTally : List Event → List ℕ → Fate → ℕ → ℕ → Type 0
-HasTally h txns fate n count = (found : List ℕ) × AreKept (EndedSo h fate) txns n found × (length found ≡ count)
+abbrev Before : ℕ → ℕ → Type 0
+Before x y = Precedes (x ∷ []) (y ∷ [])
 
--- the first n transactions by how they ended
-pub record AreTallies (h : List Event) (txns : List ℕ) (n committed aborted unfinished : ℕ) : Type 0 where
-  pub committed_are : HasTally h txns Committed n committed
-  pub aborted_are : HasTally h txns Aborted n aborted
-  pub unfinished_are : HasTally h txns Unfinished n unfinished
+first_or_later : (x z : ℕ) (xs : List ℕ) → Contains (x ∷ xs) z → (x ≡ z) ⊎ Contains xs z
+first_or_later x z xs (zero, below, is) = inl is
+first_or_later x z xs (suc k, below, is) = inr (k, omega arith, is)
 
-module _ (h : List Event) (wf : IsWellFormed h) (txns : List ℕ) (rises : Rises txns) (n x d : ℕ) (inside : n < length txns) (here : x ≡ slice_index_or txns n d) where
-  other : (fate its : Fate) → EndedSo h its x → fate ≢ its → (found : List ℕ) → AreKept (EndedSo h fate) txns n found → AreKept (EndedSo h fate) txns (n + 1) found
-  other fate its ended differ found are = skipped_next (EndedSo h fate) txns rises n x d inside here found are (λ so. differ (one_fate h wf x fate its so ended))
+later : (x z : ℕ) (xs : List ℕ) → Contains xs z → Contains (x ∷ xs) z
+later x z xs c = (suc c.0, omega arith, c.2)
 
-  unmoved : (fate its : Fate) → EndedSo h its x → fate ≢ its → (count : ℕ) → HasTally h txns fate n count → HasTally h txns fate (n + 1) count
-  unmoved fate its ended differ count w = (w.0, other fate its ended differ w.0 w.1, w.2)
+-- a list with one number more
+pub record HasMore (x : ℕ) (xs ys : List ℕ) : Type 0 where
+  pub ascending : AllPairs Before ys
+  pub each : (z : ℕ) → Contains ys z ↔ (Contains xs z ⊎ (x ≡ z))
+  pub long : length ys ≡ length xs + 1
 
-  one_more : (fate : Fate) → EndedSo h fate x → (count : ℕ) → HasTally h txns fate n count → HasTally h txns fate (n + 1) (count + 1)
-  one_more fate ended count w =
-      let len = length-append w.0 (x ∷ []) in
-      let was = w.2 in
-      (w.0 ++ x ∷ [], kept_next (EndedSo h fate) txns rises n x d inside here w.0 w.1 ended, omega arith)
-
-  module _ (committed aborted unfinished : ℕ) (are : AreTallies h txns n committed aborted unfinished) where
-    pub next_committed : EndedSo h Committed x → AreTallies h txns (n + 1) (committed + 1) aborted unfinished
-    next_committed ended = record {
-      committed_are = one_more Committed ended committed are.committed_are;
-      aborted_are = unmoved Aborted Committed ended (λ e. cc) aborted are.aborted_are;
-      unfinished_are = unmoved Unfinished Committed ended (λ e. cc) unfinished are.unfinished_are;
-    }
-
-    pub next_aborted : EndedSo h Aborted x → AreTallies h txns (n + 1) committed (aborted + 1) unfinished
-    next_aborted ended = record {
-      committed_are = unmoved Committed Aborted ended (λ e. cc) committed are.committed_are;
-      aborted_are = one_more Aborted ended aborted are.aborted_are;
-      unfinished_are = unmoved Unfinished Aborted ended (λ e. cc) unfinished are.unfinished_are;
-    }
-
-    pub next_unfinished : EndedSo h Unfinished x → AreTallies h txns (n + 1) committed aborted (unfinished + 1)
-    next_unfinished ended = record {
-      committed_are = unmoved Committed Unfinished ended (λ e. cc) committed are.committed_are;
-      aborted_are = unmoved Aborted Unfinished ended (λ e. cc) aborted are.aborted_are;
-      unfinished_are = one_more Unfinished ended unfinished are.unfinished_are;
-    }
-
--- all are counted
-module _ (h : List Event) (txns : List ℕ) (all : ListsAscending (HasEvent h) txns) (n : ℕ) (whole : take n txns ≡ txns) where
-  pub all_kept : (fate : Fate) (found : List ℕ) → AreKept (EndedSo h fate) txns n found → ListsAscending (EndedSo h fate) found
-  all_kept fate found = kept_of_all (EndedSo h fate) (HasEvent h) txns n found all whole (λ t. ended_has_event h t fate)
-
-  pub all_counted : (fate : Fate) (count : ℕ) → HasTally h txns fate n count → CountsAll (EndedSo h fate) count
-  all_counted fate count w = (w.0, all_kept fate w.0 w.1, w.2)
-
--- each transaction has an event of its own
-few_transactions : (h : List Event) (txns : List ℕ) → ListsAscending (HasEvent h) txns → length txns ≤ length h
-few_transactions h txns all =
-    let few : length txns ≤ length (map actor h) = length-le_from_is_member nat_eq_equiv txns (map actor h) distinct member in
-    let len = length-map h actor in
-    omega arith
+-- a new number has its place in an ascending list
+one_more : (x : ℕ) (xs : List ℕ) → AllPairs Before xs → ¬ Contains xs x → (ys : List ℕ) × HasMore x xs ys
+one_more x [] up new = (
+  x ∷ [],
+  record {
+    ascending = λ i j d less below. absurd (omega arith);
+    each = λ z. ((λ c. elim (first_or_later x z [] c) [ inl e ↦ inr e | inr c ↦ inl c ]), (λ e. elim e [ inl c ↦ later x z [] c | inr e ↦ (0, omega arith, e) ]));
+    long = refl;
+  },
+)
+one_more x (y ∷ ys) up new = elim (cases_lt x y) [
+  | inl less ↦ (
+    x ∷ y ∷ ys,
+    record {
+      ascending = AllPairs-cons Before x (y ∷ ys) (front less) up;
+      each = λ z. ((λ c. elim (first_or_later x z (y ∷ ys) c) [ inl e ↦ inr e | inr c ↦ inl c ]), (λ e. elim e [ inl c ↦ later x z (y ∷ ys) c | inr e ↦ (0, omega arith, e) ]));
+      long = omega arith;
+    },
+  )
+  | inr more ↦
+      let rest = one_more x ys (λ i j d less below. up (suc i) (suc j) d (omega arith) (omega arith)) (λ c. new (later y x ys c)) in (
+        y ∷ rest.0,
+        record {
+          ascending = AllPairs-cons Before y rest.0 (λ k d below. behind more rest.1 (slice_index_or rest.0 k d) (Contains-get_or rest.0 k d below)) rest.1.ascending;
+          each = λ z. (
+            (λ c. elim (first_or_later y z rest.0 c) [ inl e ↦ inl (0, omega arith, e) | inr c ↦ elim ((rest.1.each z).0 c) [ inl c ↦ inl (later y z ys c) | inr e ↦ inr e ] ]),
+            (λ e. elim e [
+              | inl c ↦ elim (first_or_later y z ys c) [ inl e ↦ (0, omega arith, e) | inr c ↦ later y z rest.0 ((rest.1.each z).1 (inl c)) ]
+              | inr e ↦ later y z rest.0 ((rest.1.each z).1 (inr e))
+            ]),
+          );
+          long = omega (arith, rest.1.long);
+        },
+      )
+]
   where
-    apart : AllPairs (λ x y. x ≢ y) txns
-    apart i j d less below = elim (all.ascending i j d less below) [ inl under ↦ (λ same. omega arith) | inr never ↦ absurd never.1 ]
+    front : x < y → All (Before x) (y ∷ ys)
+    front less zero d below = inl less
+    front less (suc k) d below = elim (up 0 (suc k) d (omega arith) below) [ inl under ↦ inl (omega arith) | inr never ↦ absurd never.1 ]
 
-    distinct : IsDistinct eqb txns
-    distinct = IsDistinct-from_AllPairs unsigned_Decides txns apart
+    behind : y ≤ x → {zs : List ℕ} → HasMore x ys zs → (z : ℕ) → Contains zs z → Before y z
+    behind more has z c = elim ((has.each z).0 c) [
+      | inl old ↦ subst (Before y) old.2 (up 0 (suc old.0) z (omega arith) (let b = old.1 in omega arith))
+      | inr same ↦ elim (cases_lt y x) [ inl less ↦ inl (omega arith) | inr most ↦ absurd (new (0, omega arith, (let e : y ≡ x = omega arith in e))) ]
+    ]
 
-    acts : (t : ℕ) → HasEvent h t → Contains (map actor h) t
-    acts t has = at_index has.0 has.1.0 has.1.1 has.1.2
-      where
-        at_index : (p : ℕ) (e : Event) → at_place h p ≡ Some e → actor e ≡ t → Contains (map actor h) t
-        at_index zero e at is = cc
-        at_index (suc i) e at is =
-            let within : i < length h = slice_get_within h i e at in
-            (i, (let len = length-map h actor in omega arith), get_or-map actor h i e t within ∙ ap actor (get_or_from_slice_get h i e e at) ∙ is)
+-- t is one of the first n transactions of a log, and has K
+abbrev pub IsEarly : List Event → (ℕ → Type 0) → ℕ → ℕ → Type 0
+IsEarly h K n t = (q : ℕ) × (q < n) × (slice_get (txns_of h) q ≡ Some t) × K t
 
-    member : (t : ℕ) → is_member eqb txns t ≡ true → is_member eqb (map actor h) t ≡ true
-    member t is = (is_member-Decides unsigned_Decides (map actor h) t).1 (acts t ((all.each t).0 ((is_member-Decides unsigned_Decides txns t).0 is)))
+module _ (h : List Event) (K : ℕ → Type 0) where
+  pub counted_none : CountsAll (IsEarly h K 0) 0
+  counted_none = ([], record { ascending = λ i j d less below. absurd (omega arith); each = λ t. ((λ c. absurd (let b = c.1 in omega arith)), (λ is. absurd (let b = is.1 in omega arith))) }, refl)
 
--- so a count has room for one more, while a transaction is left
-pub tally_within : (h : List Event) (txns : List ℕ) → ListsAscending (HasEvent h) txns → (fate : Fate) (n count : ℕ) → HasTally h txns fate n count → n < length txns → count < length h
-tally_within h txns all fate n count w left =
-    let kept = w.1.few in
-    let is = w.2 in
-    let few = few_transactions h txns all in
-    omega arith
+  module _ (n t count : ℕ) (here : slice_get (txns_of h) n ≡ Some t) (so : CountsAll (IsEarly h K n) count) where
+    earlier : (z : ℕ) → IsEarly h K n z → IsEarly h K (n + 1) z
+    earlier z is = (is.0, (let b = is.1 in omega arith), is.2, is.3)
+
+    next : (z : ℕ) → IsEarly h K (n + 1) z → IsEarly h K n z ⊎ ((t ≡ z) × K z)
+    next z (q, below, at, has) = elim (cases_eq q n) [
+      | inl same ↦ inr (same_some t z (sym here ∙ ap (slice_get (txns_of h)) (sym same) ∙ at), has)
+      | inr other ↦ inl (q, omega arith, at, has)
+    ]
+
+    pub counted_more : K t → CountsAll (IsEarly h K (n + 1)) (count + 1)
+    counted_more has =
+        let more = one_more t so.0 so.1.ascending (λ c. let is = (so.1.each t).0 c in let same = txns_stand_once h is.0 n t is.2 here in let below = is.1 in absurd (omega arith)) in (
+          more.0,
+          record {
+            ascending = more.1.ascending;
+            each = λ z. (
+              (λ c. elim ((more.1.each z).0 c) [ inl old ↦ earlier z ((so.1.each z).0 old) | inr same ↦ subst (IsEarly h K (n + 1)) same (n, omega arith, here, has) ]),
+              (λ is. (more.1.each z).1 (elim (next z is) [ inl old ↦ inl ((so.1.each z).1 old) | inr own ↦ inr own.0 ])),
+            );
+          },
+          omega (arith, more.1.long, so.2),
+        )
+
+    pub counted_same : ¬ K t → CountsAll (IsEarly h K (n + 1)) count
+    counted_same none = (
+      so.0,
+      record {
+        ascending = so.1.ascending;
+        each = λ z. (
+          (λ c. earlier z ((so.1.each z).0 c)),
+          (λ is. (so.1.each z).1 (elim (next z is) [ inl old ↦ old | inr own ↦ absurd (none (subst K (sym own.0) own.1)) ])),
+        );
+      },
+      so.2,
+    )
+
+  -- all of them
+  pub counted_all : (n count : ℕ) → length (txns_of h) ≤ n → ((t : ℕ) → K t → HasEvent h t) → CountsAll (IsEarly h K n) count → CountsAll K count
+  counted_all n count all acts so = (
+    so.0,
+    record {
+      ascending = so.1.ascending;
+      each = λ t. (
+        (λ c. ((so.1.each t).0 c).3),
+        (λ has. (so.1.each t).1 (let number = event_has_number h t (acts t has) in (number.0, (let within = slice_get_within (txns_of h) number.0 t number.1 in omega arith), number.1, has))),
+      );
+    },
+    so.2,
+  )

@@ -1,25 +1,24 @@
 -- Names by their numbers in a log, as loops collect them and as tables hold them.
 use Rattle.std.proofs.Common.{◌≡◌, ◌≢◌, ◌↔◌, inl, inr, ℕ, ◌+◌, ◌<◌, List, [], ◌∷◌, ◌++◌, length, ltb, Bool, true, false, Option, Some, None, unwrap_or, refl, sym, subst, ◌∙◌, ap, arith, slice_get}
-use Rattle.std.specs.Prelude.{All, AllPairs, Contains, MatchOption, slice_index, slice_index_or}
+use Rattle.std.specs.Prelude.{All, AllPairs, Contains, IfNone, IfSome, MatchOption, slice_index, slice_index_or}
 use Rattle.std.specs.Bool.{then_some}
 use Rattle.std.specs.List.Sorted.{IsStrictlySortedBy}
 use Rattle.std.specs.Ordering.{nat_cmp, ordering_then}
 use Rattle.std.proofs.lemmas.List.{get_or_default}
-use Rattle.std.proofs.lemmas.List.Elements.{All-contains, Contains-get_or}
+use Rattle.std.proofs.lemmas.List.Elements.{Contains-get_or}
 use Rattle.std.proofs.lemmas.Option.{slice_get_within, get_or_from_slice_get, slice_get-get_or}
 use Rattle.sia_events.specs.declared.event.Event.{Event}
 use Rattle.sia_events.specs.Lists.{ListsAscending, Precedes}
-use Rattle.sia_events.specs.Numbering.{keys_of, writes_of}
+use Rattle.sia_events.specs.Numbering.{keys_of, txns_of, writes_of}
 use Rattle.sia_events.specs.Transactions.{HasEvent, Wrote}
-use Rattle.sia_index.specs.Numbers.{IsTxnAt}
 use Rattle.sia_events.proofs.Worked.OneList.{one_list_by}
 use Rattle.sia_index.specs.Info.{IsKeyAt}
 use Rattle.std.proofs.lemmas.Bool.{cases_lt, ltb-false, ltb-true}
 use Rattle.sia_index.specs.declared.names.Numbered.{Numbered}
-use Rattle.sia_index.specs.Rows.{AreNumbered, AreNamesOf, IsWritten}
+use Rattle.sia_index.specs.Rows.{AreNumbered, IsColumn, IsWritten}
 use Rattle.sia_index.specs.Tables.{ArePlaces, AreNumbers}
-use Rattle.sia_index.proofs.TxnTables.Collected.{HoldsBelow, holds_one, holds_again, collected}
-use Rattle.sia_index.proofs.Shared.LogNames.{StandOnce, keys_stand_once, write_has_number, numbered_wrote}
+use Rattle.sia_index.proofs.TxnTables.Collected.{HoldsBelow, holds_one, holds_again, holds_same, collected}
+use Rattle.sia_index.proofs.Shared.LogNames.{StandOnce, event_has_number, keys_stand_once, write_has_number, numbered_wrote}
 use Rattle.sia_index.proofs.Shared.Ordered.{ascends, precedes_last, precedes_then}
 
 abbrev pub none_numbered : Numbered ℕ
@@ -55,6 +54,9 @@ module _ (K : ℕ → Type 0) (names : List ℕ) (n t : ℕ) (rows : List (Numbe
 
   pub numbered_more : K t → HoldsBelow (IsRowOf K names) (n + 1) (rows ++ record { name = t; number = n } ∷ [])
   numbered_more has = holds_one (IsRowOf K names) n rows (record { name = t; number = n }) holds (refl, here, has) (λ x is. same_row (record { name = t; number = n }) x (name_is x is) (sym is.0))
+
+  pub numbered_same : ¬ K t → HoldsBelow (IsRowOf K names) (n + 1) rows
+  numbered_same none = holds_same (IsRowOf K names) n rows holds (λ x is. none (subst K (sym (name_is x is)) is.2))
 
 pub numbered_listed : (K : ℕ → Type 0) (names : List ℕ) (n : ℕ) (xs ys : List (Numbered ℕ)) → n ≡ length names → HoldsBelow (IsRowOf K names) n xs → IsStrictlySortedBy (λ x y. ordering_then (nat_cmp x.name y.name) (nat_cmp x.number y.number)) ys → ((x : Numbered ℕ) → Contains xs x → Contains ys x) → ((x : Numbered ℕ) → Contains ys x → Contains xs x) → AreNumbered K names ys
 numbered_listed K names n xs ys all holds = collected (IsRowOf K names) (λ row. row.name ∷ row.number ∷ []) (λ row. (slice_get names row.number ≡ Some row.name) × K row.name) (λ x y. ordering_then (nat_cmp x.name y.name) (nat_cmp x.number y.number))
@@ -111,7 +113,7 @@ module _ (K : ℕ → Type 0) (names : List ℕ) (rows : List (Numbered ℕ)) (a
         | inr rest ↦ elim rest.1 [ inl before ↦ omega arith | inr never ↦ never.1 ]
       ]
 
-  module _ (once : StandOnce names) (known : (t : ℕ) → K t → (i : ℕ) × (slice_get names i ≡ Some t)) (listed : List ℕ) (named : AreNamesOf rows listed) where
+  module _ (once : StandOnce names) (known : (t : ℕ) → K t → (i : ℕ) × (slice_get names i ≡ Some t)) (listed : List ℕ) (named : IsColumn (λ row. row.name) rows (length rows) listed) where
     row_of : (t i : ℕ) → slice_get names i ≡ Some t → K t → Contains rows (record { name = t; number = i })
     row_of t i at has = (are.each (record { name = t; number = i })).1 (at, has)
 
@@ -177,10 +179,6 @@ its_number K listed are i t at =
     let same = one_list_by _ _ at.0 listed at.1 are in
     (subst (λ xs. i < length xs) same at.2, subst (λ xs. slice_index xs i ≡ t) same at.3)
 
-pub found_number : (K : ℕ → Type 0) (listed : List ℕ) → ListsAscending K listed → (t : ℕ) (found : Option ℕ) → MatchOption found (All (λ x. x ≢ t) listed) (λ i. (i < length listed) × ((d : ℕ) → slice_index_or listed i d ≡ t)) → MatchOption found (¬ K t) (λ i. (xs : List ℕ) × ListsAscending K xs × (i < length xs) × (slice_index xs i ≡ t))
-found_number K listed are t None missing = λ has. All-contains (λ x. x ≢ t) listed t missing ((are.each t).1 has) refl
-found_number K listed are t (Some i) at = (listed, are, at.0, at.1 0)
-
 -- the place, if it is below the count
 abbrev pub place_below : ℕ → ℕ → Option ℕ
 place_below count place = then_some (ltb place count) place
@@ -214,7 +212,11 @@ number_written h names listed numbers are q inside place is = of_place place (nu
   of_place None none = λ t wrote. none (t, wrote)
   of_place (Some i) at = at
 
--- a transaction that has an event has the number that is found
-pub has_number : (h : List Event) (t : ℕ) (found : Option ℕ) → MatchOption found (¬ HasEvent h t) (λ i. IsTxnAt h i t) → HasEvent h t → IsTxnAt h (unwrap_or found 0) t
-has_number h t (Some i) at has = at
+-- what is found among the names of a log's transactions is a transaction's number, which it has if it has an event
+pub txn_found : (h : List Event) (t : ℕ) (found : Option ℕ) → IfSome found (λ n. slice_get (txns_of h) n ≡ Some t) → IfNone found ((n : ℕ) → slice_get (txns_of h) n ≢ Some t) → MatchOption found (¬ HasEvent h t) (λ n. slice_get (txns_of h) n ≡ Some t)
+txn_found h t None some none = λ has. let number = event_has_number h t has in none number.0 number.1
+txn_found h t (Some n) some none = some
+
+pub has_number : (h : List Event) (t : ℕ) (found : Option ℕ) → MatchOption found (¬ HasEvent h t) (λ n. slice_get (txns_of h) n ≡ Some t) → HasEvent h t → slice_get (txns_of h) (unwrap_or found 0) ≡ Some t
+has_number h t (Some n) at has = at
 has_number h t None none has = absurd (none has)

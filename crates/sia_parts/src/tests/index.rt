@@ -1,9 +1,9 @@
 //! What an index answers of worked histories.
 ghost use Rattle.sia_index.specs.Positions.{HasPosition};
 
-use sia_events::{Key, TxnId, read_history};
+use sia_events::{Key, Log, TxnId, read_history};
 use sia_index::keyed::{ByKey, place_from_near};
-use sia_index::{Index, Made, Reader, TxnInfo, make};
+use sia_index::{Index, Made, Reader, TxnInfo, make, txns_in_order};
 use std::alloc::Global;
 use std::fmt::Write;
 use std::test::*;
@@ -19,21 +19,21 @@ fn index_of(alloc: Global, text: &[u8]) -> Result<Index, Fail> {
     Ok(index)
 }
 
-// Whether the transaction has an event, and this number among all that have one.
-fn has_number(index: &Index, t: TxnId, i: usize) -> bool {
-    index.txn_number(t) == Some(i)
-}
-
-fn has_txns(index: &Index, txns: &[(TxnId, TxnInfo)]) -> bool {
-    let mut is_so = index.txns().len() == txns.len();
-    for (i, (t, info)) in txns.iter().enumerate() {
-        is_so &= index.txns().get(i) == Some(t)
+// Whether these are all transactions by name, and what the index has of each.
+fn has_txns(
+    alloc: Global,
+    log: &Log,
+    index: &Index,
+    txns: &[(TxnId, TxnInfo)],
+) -> Result<bool, Fail> {
+    let rows = txns_in_order(alloc, log)?;
+    let mut is_so = rows.len() == txns.len();
+    for (row, (t, info)) in rows.iter().zip(txns) {
+        is_so &= row.name == *t
             && index.txn(*t) == Some(*info)
-            && has_number(index, *t, i)
-            && i < index.txns().len()
-            && index.txn_at(i) == *info;
+            && index.txn_number(*t) == Some(row.number);
     }
-    is_so
+    Ok(is_so)
 }
 
 fn has_keys(index: &Index, keys: &[(Key, &[Made])]) -> bool {
@@ -50,7 +50,7 @@ fn has_keys(index: &Index, keys: &[(Key, &[Made])]) -> bool {
 fn is_answered(index: &Index, asked: &Asked<'_>) -> bool {
     let keys = index.written_keys();
     match asked {
-        Asked::NoTxn(t) => index.txn(*t).is_none() && !index.txns().contains(t),
+        Asked::NoTxn(t) => index.txn(*t).is_none() && index.txn_number(*t).is_none(),
         Asked::NoKey(k) => !keys.contains(k) && index.versions(*k).is_empty(),
         Asked::Overlap(t, u, is_told) => index.overlap(*t, *u) == *is_told,
         Asked::FirstWrite(t, k, place) => index.first_write(*t, *k) == *place,
@@ -111,8 +111,10 @@ fn is_due(index: &Index, wanted: &Reader, dues: &[Due]) -> bool {
 #[test]
 fn worked_histories(rt: HostRuntime) -> Result<(), Fail> {
     for (i, it) in HISTORIES.iter().enumerate() {
-        let index = index_of(rt.alloc(), it.text)?;
-        let mut is_so = has_txns(&index, it.txns) && has_keys(&index, it.keys);
+        let history = read_history(rt.alloc(), it.text)?;
+        let index = make::index(rt.alloc(), &history)?;
+        let mut is_so = has_txns(rt.alloc(), history.log(), &index, it.txns)?;
+        is_so &= has_keys(&index, it.keys);
         for asked in it.asked {
             is_so &= is_answered(&index, asked);
         }
@@ -134,8 +136,12 @@ fn numbers(rt: HostRuntime) -> Result<(), Fail> {
         committed.push((*t, lifetime.start, lifetime.commit))?;
     }
     assert!(rt; committed.as_slice() == NUMBERED.committed);
-    let numbers = index.txn_numbers(rt.alloc())?;
-    assert!(rt; numbers.as_slice() == NUMBERED.txns);
+    let mut txns = Vec::new(rt.alloc());
+    for row in &txns_in_order(rt.alloc(), log)? {
+        txns.push((row.name, row.number))?;
+        assert!(rt; index.txn_number(row.name) == Some(row.number));
+    }
+    assert!(rt; txns.as_slice() == NUMBERED.txns);
     for txn in 0..log.txn_count() {
         let (number, reader) = (index.committed_number(txn), index.reader_at(txn, 10));
         assert!(rt;

@@ -24,8 +24,8 @@ push_front-requires c =
 pub bounds_of-requires : goal.bounds_of-requires
 bounds_of-requires c = record { index = c.requires.index; judgement = c.requires.judgement }
 
-pub push_snapshots-requires-clause-bounds : goal.push_snapshots-requires-clause-bounds
-push_snapshots-requires-clause-bounds c =
+pub push_snapshots-requires : goal.push_snapshots-requires
+push_snapshots-requires c =
     let h = c.args.history.now in
     subst (λ (all : List Bounds). EachTxn (IsKnownOf h) h all) (sym c.deref-3.ensures.value) c.in_ok-bounds_of.ensures
 

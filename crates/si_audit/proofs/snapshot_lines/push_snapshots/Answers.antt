@@ -1,12 +1,16 @@
 -- Each row is of the transaction of its number.
-use Rattle.std.proofs.Common.{◌≡◌, ℕ, ◌<◌, ◌≤◌, ◌-◌, List, [], ◌∷◌, ◌++◌, None, false, codes, inl, inr, refl, ap, sym, ◌∙◌, append_assoc, append-nil, get_or, length, subst, arith}
+use Rattle.std.specs.Prelude.{All}
+use Rattle.std.proofs.Common.{◌≡◌, ℕ, Some, map, slice_get, ◌<◌, ◌-◌, List, [], ◌∷◌, ◌++◌, None, false, codes, inl, inr, refl, ap, sym, ◌∙◌, append_assoc, append-nil, get_or, length, subst, arith}
 use Rattle.std.proofs.lemmas.Bool.{false≢true}
-use Rattle.std.proofs.lemmas.List.{get_or_default}
+use Rattle.std.proofs.lemmas.List.{get_or-map, length-map, take_all}
 use Rattle.sia_events.specs.Lists.{ListsAscending}
-use Rattle.sia_events.specs.Transactions.{HasEvent}
-use Rattle.sia_index.proofs.Shared.Ordered.{ascends}
-use Rattle.sia_index.proofs.TxnTables.PlacesOf.{few_rows}
+use Rattle.sia_events.specs.Numbering.{txns_of}
 use Rattle.sia_events.specs.Text.{numeral}
+use Rattle.sia_events.specs.Transactions.{HasEvent}
+use Rattle.sia_index.specs.declared.names.Numbered.{Numbered}
+use Rattle.sia_index.proofs.Shared.NumberedNames.{none_numbered}
+use Rattle.si_audit.specs.Bounds.{IsKnownOf}
+use Rattle.si_audit.specs.Explained.{TellsAll}
 use Rattle.si_audit.specs.declared.snapshots.Bounds.{Bounds}
 use Rattle.si_audit.specs.Lines.{line}
 use Rattle.si_audit.specs.SnapshotLines.{TellsSnapshot}
@@ -16,7 +20,7 @@ use Rattle.si_audit.proofs.Shared.KnownSnapshots.{early, spans}
 use Rattle.si_audit.proofs.Shared.SnapshotStarts.{fits_start_or_not}
 use Rattle.si_audit.proofs.Shared.Telling.{IsToldBehind, next_told}
 use Rattle.si_audit.proofs.snapshot_lines.push_snapshots.Goals as goal
-use Rattle.si_audit.proofs.snapshot_lines.push_snapshots.Goals.{then-b+then-fits+in_ok-push_number+in_ok-push_number-2+in_ok-push_number-3, else-b+then-b-2+in_ok-push_number-4+in_ok-push_none, else-b-via-then-b+else-fits, else-b-via-else-b, else-b+else-b-2}
+use Rattle.si_audit.proofs.snapshot_lines.push_snapshots.Goals.{In-loop-row, then-b+then-fits+in_ok-push_number+in_ok-push_number-2+in_ok-push_number-3, else-b+then-b-2+in_ok-push_number-4+in_ok-push_none, else-b-via-then-b+else-fits, else-b-via-else-b, else-b+else-b-2}
 
 none_line : (o s e t n l why m u : List ℕ) → m ≡ o ++ (s ++ e) ++ t ++ (e ++ n ++ l) → u ≡ m ++ why → u ≡ o ++ (((s ++ (e ++ (t ++ (e ++ n)))) ++ l) ++ why)
 none_line o s e t n l why m u first second = second ∙ ap (λ (x : List ℕ). x ++ why) first ∙ simp append_assoc
@@ -26,40 +30,42 @@ from_line : (o s e t f from w to l k m n : List ℕ) → k ≡ o ++ (s ++ e) ++ 
 from_line o s e t f from w to l k m n first second third =
     third ∙ ap (λ (x : List ℕ). x ++ [] ++ to ++ l) (second ∙ ap (λ (x : List ℕ). x ++ [] ++ from ++ (e ++ w ++ e)) first) ∙ simp (append_assoc, append-nil)
 
--- there are no more than there are numbers for them
-few_txns : (P : ℕ → Type 0) (txns : List ℕ) → ListsAscending P txns → ((i : ℕ) → get_or txns i 0 < 4294967296) → length txns ≤ 4294967296
-few_txns P txns are small = few_rows (λ t. t) txns 4294967296
-    (λ i j d less below same. let up : get_or txns i d < get_or txns j d = ascends (λ t. t) P txns are i j d less below in let equal : get_or txns i d ≡ get_or txns j d = same in omega arith)
-    (λ i d below. let fits : get_or txns i 0 < 4294967296 = small i in subst (λ t. t < 4294967296) (get_or_default txns i 0 d below) fits)
+-- what is read where no row stands
+abbrev unread : Bounds
+unread = record { misfit = false; never = None; low = record { commit = 0; place = 0; key = 0 }; high = record { commit = 0; place = 0; key = 0 }; first = 0 }
 
-pub bounds-all-i : goal.bounds-all-i
-bounds-all-i c = (row_known c.args.h.now c.args.all.now c.requires.bounds c.txns-txns.result.now (subst (λ h. ListsAscending (HasEvent h) c.txns-txns.result.now) c.requires.index c.txns-txns.ensures) c.loop-i.i c.loop-i-test.true (record { misfit = false; never = None; low = record { commit = 0; place = 0; key = 0 }; high = record { commit = 0; place = 0; key = 0 }; first = 0 })).0
+-- the row that is gone through, and what is known of its transaction
+abbrev row : In-loop-row → Numbered ℕ
+row c = get_or c.deref-row-items.result.now c.loop-row.row-index none_numbered
 
-pub offset_bounds-all-i : goal.offset_bounds-all-i
-offset_bounds-all-i c =
-    let few = few_txns (HasEvent c.args.ix.now) c.txns-txns.result.now c.txns-txns.ensures (λ i. let fits = c.type_inv.txns i in omega arith) in
-    let below = c.loop-i-test.true in
-    omega arith
+known_of : (c : In-loop-row) → ((row c).number < length c.args.all.now) × HasEvent c.args.h.now (row c).name × IsKnownOf c.args.h.now (row c).name (get_or c.args.all.now (row c).number unread)
+known_of c =
+    let here = subst (All (λ (r : Numbered ℕ). slice_get (txns_of c.args.h.now) r.number ≡ Some r.name)) (sym c.deref-row-items.ensures.value) c.in_ok-txns_in_order.ensures.numbers in
+    row_known c.args.h.now c.args.all.now c.requires (row c).number (row c).name (here c.loop-row.row-index none_numbered c.loop-row-test.true) unread
+
+pub bounds-all-row : goal.bounds-all-row
+bounds-all-row c = (known_of (goal.at.bounds-all-row c).In-loop-row).0
 
 pub overflow_sub-min : goal.overflow_sub-min
 overflow_sub-min c =
     let h = c.args.h.now in
-    let i = c.loop-i.i in
-    let (within, has, known) = row_known c.args.h.now c.args.all.now c.requires.bounds c.txns-txns.result.now (subst (λ h. ListsAscending (HasEvent h) c.txns-txns.result.now) c.requires.index c.txns-txns.ensures) c.loop-i.i c.loop-i-test.true (record { misfit = false; never = None; low = record { commit = 0; place = 0; key = 0 }; high = record { commit = 0; place = 0; key = 0 }; first = 0 }) in
-    let t : ℕ = get_or c.txns-txns.result.now i 0 in
-    let some = (c.fits.ensures h t c.law.ensures has known).0 c.if-fits.true in
-    let below = early h c.law.ensures t (get_or c.args.all.now i (record { misfit = false; never = None; low = record { commit = 0; place = 0; key = 0 }; high = record { commit = 0; place = 0; key = 0 }; first = 0 })) known c.if-b.true some.0 some.1 in
+    let r = row (goal.at.overflow_sub-min c).In-loop-row in
+    let (within, has, known) = known_of (goal.at.overflow_sub-min c).In-loop-row in
+    let some = (c.fits.ensures h r.name c.law.ensures has known).0 c.if-fits.true in
+    let below = early h c.law.ensures r.name (get_or c.args.all.now r.number unread) known c.if-b.true some.0 some.1 in
     let (high, first) = below in
     omega arith
 
-pub loop-i-preserved : goal.loop-i-preserved
-loop-i-preserved c =
+pub loop-row-preserved : goal.loop-row-preserved
+loop-row-preserved c =
     let h = c.args.h.now in
-    let i = c.loop-i.i in
-    let t : ℕ = get_or c.txns-txns.result.now i 0 in
-    let b : Bounds = get_or c.args.all.now i (record { misfit = false; never = None; low = record { commit = 0; place = 0; key = 0 }; high = record { commit = 0; place = 0; key = 0 }; first = 0 }) in
-    let (within, has, known) = row_known c.args.h.now c.args.all.now c.requires.bounds c.txns-txns.result.now (subst (λ h. ListsAscending (HasEvent h) c.txns-txns.result.now) c.requires.index c.txns-txns.ensures) c.loop-i.i c.loop-i-test.true (record { misfit = false; never = None; low = record { commit = 0; place = 0; key = 0 }; high = record { commit = 0; place = 0; key = 0 }; first = 0 }) in
-    let o = c.loop-i.out.items in
+    let rows = c.deref-row-items.result.now in
+    let i = c.loop-row.row-index in
+    let r = row (goal.at.loop-row-preserved c).In-loop-row in
+    let t : ℕ = r.name in
+    let b : Bounds = get_or c.args.all.now r.number unread in
+    let (within, has, known) = known_of (goal.at.loop-row-preserved c).In-loop-row in
+    let o = c.loop-row.out.items in
     let told : IsToldBehind (TellsSnapshot h t) o c.if-b.out.items =
     elim c.if-b.branch [
       | then-b+then-fits+in_ok-push_number+in_ok-push_number-2+in_ok-push_number-3 w ↦
@@ -96,4 +102,15 @@ loop-i-preserved c =
         ap (λ out. out.items) w.out-is ∙ sym (append-nil _),
       )
     ] in
-    next_told (TellsSnapshot h) c.txns-txns.result.now i 0 _ _ _ c.loop-i-test.true c.loop-i.invariant told
+    let long = length-map rows (λ (x : Numbered ℕ). x.name) in
+    let name : t ≡ get_or (map (λ (x : Numbered ℕ). x.name) rows) i 0 = sym (get_or-map (λ (x : Numbered ℕ). x.name) rows i none_numbered 0 c.loop-row-test.true) in
+    next_told (TellsSnapshot h) (map (λ (x : Numbered ℕ). x.name) rows) i 0 _ _ _ (omega (arith, c.loop-row-test.true)) c.loop-row.invariant (subst (λ u. IsToldBehind (TellsSnapshot h u) o c.if-b.out.items) name told)
+
+pub returns : goal.returns
+returns c =
+    let rows = c.deref-row-items.result.now in
+    let long = length-map rows (λ (x : Numbered ℕ). x.name) in
+    let (bytes, told, is) = c.loop-row.invariant in
+    let whole = take_all c.loop-row.row-index (map (λ (x : Numbered ℕ). x.name) rows) (omega (arith, c.loop-row-test.false)) in
+    let names = subst (λ (xs : List (Numbered ℕ)). ListsAscending (HasEvent c.args.h.now) (map (λ (x : Numbered ℕ). x.name) xs)) (sym c.deref-row-items.ensures.value) c.in_ok-txns_in_order.ensures.names in
+    (bytes, (map (λ (x : Numbered ℕ). x.name) rows, names, subst (λ xs. TellsAll (TellsSnapshot c.args.h.now) xs bytes) whole told), is)

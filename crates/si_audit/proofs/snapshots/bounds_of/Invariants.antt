@@ -7,5 +7,5 @@ use Rattle.si_audit.proofs.snapshots.bounds_of.Given as goal
 abbrev pub invariant-loop-before : goal.invariant-loop-before
 invariant-loop-before l = EachTxn (λ t. IsKnownTo l.log t (l.before + 1)) l.log l.all.items
 
-abbrev pub invariant-loop-i : goal.invariant-loop-i
-invariant-loop-i l = AreKnownFrom l.log l.i l.all.items
+abbrev pub invariant-loop-number : goal.invariant-loop-number
+invariant-loop-number l = AreKnownFrom l.log l.number l.all.items

@@ -1,52 +1,54 @@
 -- Each row tells whether a snapshot fits its transaction.
-use Rattle.std.proofs.Common.{◌≡◌, inl, inr, ℕ, None, false, get_or, refl, sym, subst, ◌∙◌, arith}
+use Rattle.std.proofs.Common.{◌≡◌, inl, inr, ℕ, ◌<◌, Some, get_or, length, slice_get, refl, sym, subst, ◌∙◌, arith}
 use Rattle.std.proofs.lemmas.Bool.{cases_lt, false≢true}
-use Rattle.std.proofs.lemmas.List.{get_or_default}
-use Rattle.sia_events.specs.Lists.{ListsAscending}
+use Rattle.std.proofs.lemmas.Option.{slice_get-get_or, slice_get_within}
+use Rattle.sia_events.specs.Numbering.{names_of, txn_at, txns_of}
 use Rattle.sia_events.specs.Transactions.{HasEvent}
-use Rattle.sia_index.specs.Numbers.{IsTxnAt}
-use Rattle.sia_index.proofs.Shared.NumberedNames.{its_number}
+use Rattle.sia_index.proofs.Shared.LogNames.{event_has_number}
+use Rattle.sia_index.proofs.Shared.NumberedNames.{same_some}
 use Rattle.si_audit.specs.Bounds.{IsKnownOf}
 use Rattle.si_audit.specs.Snapshots.{IsSnapshot}
+use Rattle.si_audit.specs.declared.snapshots.Bounds.{Bounds}
 use Rattle.si_audit.proofs.Shared.KnownFits.{row_known}
+use Rattle.si_audit.proofs.Shared.Marking.{unknown}
+use Rattle.si_audit.proofs.snapshots.is_generalized.Goals.{In-loop-number}
 use Rattle.si_audit.proofs.snapshots.is_generalized.Goals as goal
 
+-- the transaction of the number
+here : (c : In-loop-number) → slice_get (txns_of c.args.log.now) c.loop-number.number ≡ Some (txn_at (names_of c.args.log.now) c.loop-number.number)
+here c = slice_get-get_or (txns_of c.args.log.now) c.loop-number.number 0 (omega (arith, c.loop-number-test.true, c.txn_count-number-end.ensures))
+
+row : (c : In-loop-number) (d : Bounds) → (c.loop-number.number < length c.in_ok-all.all.items) × HasEvent c.args.log.now (txn_at (names_of c.args.log.now) c.loop-number.number) × IsKnownOf c.args.log.now (txn_at (names_of c.args.log.now) c.loop-number.number) (get_or c.in_ok-all.all.items c.loop-number.number d)
+row c d = row_known c.args.log.now c.in_ok-all.all.items c.in_ok-all.ensures c.loop-number.number _ (here c) d
+
 pub index-requires : goal.index-requires
-index-requires c =
-    let are = subst (λ h. ListsAscending (HasEvent h) c.txns-i-end.result.now) c.requires.index c.txns-i-end.ensures in
-    let row = row_known c.args.log.now c.in_ok-all.all.items c.in_ok-all.ensures c.txns-i-end.result.now are c.loop-i.i c.loop-i-test.true (record { misfit = false; never = None; low = record { commit = 0; place = 0; key = 0 }; high = record { commit = 0; place = 0; key = 0 }; first = 0 }) in
-    let below = row.0 in
-    let same = c.in_ok-all.all.ok.0 in
-    omega arith
+index-requires c = omega (arith, (row (goal.at.index-requires c).In-loop-number unknown).0, c.in_ok-all.all.ok.0)
 
 pub returns-then-not-fits : goal.returns-then-not-fits
 returns-then-not-fits c =
     let h = c.args.log.now in
-    let txns = c.txns-i-end.result.now in
-    let t = get_or txns c.loop-i.i 0 in
-    let are = subst (λ h. ListsAscending (HasEvent h) txns) c.requires.index c.txns-i-end.ensures in
-    let row = row_known h c.in_ok-all.all.items c.in_ok-all.ensures txns are c.loop-i.i c.loop-i-test.true c.index.result.now in
-    ((λ e. absurd (false≢true e)), (λ all. sym c.if-not-fits.true ∙ (c.fits.ensures h t c.law.ensures row.1 (subst (IsKnownOf h t) (sym c.index.ensures) row.2)).1 (all t row.1)))
+    let t = txn_at (names_of h) c.loop-number.number in
+    let (inside, has, known) = row (goal.at.returns-then-not-fits c).In-loop-number c.index.result.now in
+    ((λ e. absurd (false≢true e)), (λ all. sym c.if-not-fits.true ∙ (c.fits.ensures h t c.law.ensures has (subst (IsKnownOf h t) (sym c.index.ensures) known)).1 (all t has)))
 
-pub loop-i-preserved : goal.loop-i-preserved
-loop-i-preserved c k t below at =
-    let h = c.args.log.now in
-    let txns = c.txns-i-end.result.now in
-    let are = subst (λ h. ListsAscending (HasEvent h) txns) c.requires.index c.txns-i-end.ensures in
-    elim (cases_lt k c.loop-i.i) [
-      | inl before ↦ c.loop-i.invariant k t before at
-      | inr here ↦
-          let row = row_known h c.in_ok-all.all.items c.in_ok-all.ensures txns are c.loop-i.i c.loop-i-test.true c.index.result.now in
-          let u = get_or txns c.loop-i.i 0 in
-          let same : c.loop-i.i ≡ k = omega arith in
-          let name : u ≡ t = (its_number (HasEvent h) txns are c.loop-i.i t (subst (λ n. IsTxnAt h n t) (sym same) at)).1 in
-          subst (λ s. (n : ℕ) × IsSnapshot h s n) name ((c.fits.ensures h u c.law.ensures row.1 (subst (IsKnownOf h u) (sym c.index.ensures) row.2)).0 c.if-not-fits.false)
-    ]
+pub loop-number-preserved : goal.loop-number-preserved
+loop-number-preserved c k t below at = elim (cases_lt k c.loop-number.number) [
+  | inl before ↦ c.loop-number.invariant k t before at
+  | inr last ↦
+      let h = c.args.log.now in
+      let d = (goal.at.loop-number-preserved c).In-loop-number in
+      let u = txn_at (names_of h) c.loop-number.number in
+      let (inside, has, known) = row d c.index.result.now in
+      let same : c.loop-number.number ≡ k = omega arith in
+      let name : u ≡ t = same_some u t (sym (subst (λ n. slice_get (txns_of h) n ≡ Some u) same (here d)) ∙ at) in
+      subst (λ s. (n : ℕ) × IsSnapshot h s n) name ((c.fits.ensures h u c.law.ensures has (subst (IsKnownOf h u) (sym c.index.ensures) known)).0 c.if-not-fits.false)
+]
 
 pub returns : goal.returns
-returns c =
-    let h = c.args.log.now in
-    let txns = c.txns-i-end.result.now in
-    let are = subst (λ h. ListsAscending (HasEvent h) txns) c.requires.index c.txns-i-end.ensures in
-    let end = c.loop-i-test.false in
-    ((λ e t has. let k = (are.each t).1 has in let below = k.1 in c.loop-i.invariant k.0 t (omega arith) (txns, are, k.1, get_or_default txns k.0 0 t k.1 ∙ k.2)), (λ all. refl))
+returns c = (
+  (λ e t has.
+      let number = event_has_number c.args.log.now t has in
+      let below = slice_get_within (txns_of c.args.log.now) number.0 t number.1 in
+      c.loop-number.invariant number.0 t (omega (arith, c.loop-number-test.false, c.txn_count-number-end.ensures)) number.1),
+  (λ all. refl),
+)

@@ -280,8 +280,8 @@ pub struct Numbers<'a> {
     pub text: &'a [u8],
     /// The committed transactions, with their starts and commits.
     pub committed: &'a [(TxnId, u32, u32)],
-    /// By the log's transaction, its number among all.
-    pub txns: &'a [usize],
+    /// All transactions by name, with their numbers in the log.
+    pub txns: &'a [(TxnId, u32)],
     /// By the log's transaction, its number among the committed ones.
     pub numbers: &'a [Option<u32>],
     /// By the log's key, its number among the written ones.
@@ -309,7 +309,7 @@ macro_rules! write_at {
 pub const NUMBERED: &Numbers<'static> = &Numbers {
     text: b"w9[7] r4[5:0] w2[3] c9 w2[7] w5[1] c2 w5[7] a5 r4[7:2] w6[3]",
     committed: &[(2, 2, 7), (9, 0, 4)],
-    txns: &[4, 1, 0, 2, 3],
+    txns: &[(2, 2), (4, 1), (5, 3), (6, 4), (9, 0)],
     numbers: &[Some(1), None, Some(0), None, None],
     keys: &[Some(2), None, Some(1), Some(0)],
     writes: &[
