@@ -93,7 +93,6 @@ module _ (h : List Event) where
         (one_key q p i j b a (omega arith), (let m = w.0 in omega arith))),
     (λ w.
         let e = its_number q p i j b a w.0 in
-        let m = w.1 in
         let l : q < end = elim (cases_lt q end) [ inl less ↦ less | inr more ↦ let n = high.0 more in absurd (omega arith) ] in
         (omega arith, omega arith)),
   )
@@ -105,13 +104,7 @@ module _ (h : List Event) where
 
     -- what stands from there on stands at the place or behind
     behind : (q : ℕ) → (c : Contains made q) → from ≤ q → place ≤ c.0
-    behind q c most = elim (cases_lt c.0 place) [
-      | inr le ↦ le
-      | inl less ↦
-          let l = ltb-true (get_or made c.0 q) from (point.0 c.0 q (omega arith) less) in
-          let e = c.2 in
-          absurd (omega arith)
-    ]
+    behind q c most = grind (arith, cases_lt, ltb-true)
 
     pub none_there : (to : ℕ) → length made ≤ place → IsLeastNumber (IsMadeWithin h made from to) 4294967295
     none_there to all = inr (refl, λ j w. let b = behind w.0 w.1 w.2 in let l = w.1.1 in omega arith)

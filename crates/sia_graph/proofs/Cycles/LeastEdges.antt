@@ -1,6 +1,6 @@
 -- The least edge from one transaction to another, in a sorted list.
 use Rattle.std.proofs.Common.{◌≡◌, ◌⊎◌, inl, inr, ℕ, ◌<◌, ◌≤◌, true, false, List, [], ◌∷◌, length, get_or, ltb, eqb, ap, sym, ◌∙◌, subst, arith}
-use Rattle.std.specs.Prelude.{Contains, AllPairs, ◌&&◌}
+use Rattle.std.specs.Prelude.{Contains, AllPairs}
 use Rattle.std.specs.List.Sorted.{IsPartitionPoint, IsPartitionedBy}
 use Rattle.std.proofs.lemmas.Bool.{cases_lt, cases_eq, ltb-true, lt-ltb, eqb-true, eq-eqb, or_left, or_right, or_cases, and_from, and_parts}
 use Rattle.std.proofs.lemmas.List.{get_or_default}
@@ -15,21 +15,14 @@ abbrev IsBefore : ℕ → ℕ → Edge → Type 0
 IsBefore s t e = (e.src < s) ⊎ ((e.src ≡ s) × (e.dst < t))
 
 before_true : (s t : ℕ) (e : Edge) → IsBefore s t e → is_before s t e ≡ true
-before_true s t e (inl l) = or_left (ltb e.src s) (eqb e.src s && ltb e.dst t) (lt-ltb e.src s l)
-before_true s t e (inr w) = or_right (ltb e.src s) (eqb e.src s && ltb e.dst t) (and_from (eqb e.src s) (ltb e.dst t) (eq-eqb e.src s w.0) (lt-ltb e.dst t w.1))
+before_true s t e p = grind (arith, or_left, ltb, eqb, lt-ltb, or_right, and_from, eq-eqb)
 
 true_before : (s t : ℕ) (e : Edge) → is_before s t e ≡ true → IsBefore s t e
-true_before s t e b = elim (or_cases (ltb e.src s) (eqb e.src s && ltb e.dst t) b) [
-  | inl l ↦ inl (ltb-true e.src s l)
-  | inr w ↦ let p = and_parts (eqb e.src s) (ltb e.dst t) w in inr (eqb-true e.src s p.0, ltb-true e.dst t p.1)
-]
+true_before s t e b = grind (arith, or_cases, ltb, eqb, ltb-true, and_parts, eqb-true)
 
 module _ (edges : List Edge) (sorted : AllPairs (λ d e. Precedes (edge_rank d) (edge_rank e)) edges) (s t : ℕ) where
   earlier : (d e : Edge) → Precedes (edge_rank d) (edge_rank e) → IsBefore s t e → IsBefore s t d
-  earlier d e (inl l) (inl m) = inl (omega arith)
-  earlier d e (inl l) (inr m) = let a = m.0 in inl (omega arith)
-  earlier d e (inr l) (inl m) = let a = l.0 in inl (omega arith)
-  earlier d e (inr l) (inr m) = inr (l.0 ∙ m.0, elim (l.1) [ inl n ↦ let b = m.1 in omega arith | inr n ↦ let c = n.0 in let b = m.1 in omega arith ])
+  earlier d e p q = grind arith
 
   pub parted : IsPartitionedBy (is_before s t) edges
   parted i j d l b later = elim (cases_eq i j) [
@@ -40,21 +33,10 @@ module _ (edges : List Edge) (sorted : AllPairs (λ d e. Precedes (edge_rank d) 
   module _ (i : ℕ) (point : IsPartitionPoint (λ e. is_before s t e ≡ true) (λ e. is_before s t e ≡ false) edges i) where
     -- an edge from s to t stands at the point or after it
     no_earlier : (e : Edge) → e.src ≡ s → e.dst ≡ t → (k : ℕ) → k < length edges → get_or edges k e ≡ e → i ≤ k
-    no_earlier e a b k l at = elim (cases_lt k i) [
-      | inr more ↦ more
-      | inl less ↦
-          let before = true_before s t (get_or edges k e) (point.0 k e (omega arith) less) in
-          let c = ap (λ (x : Edge). x.src) at in
-          let f = ap (λ (x : Edge). x.dst) at in
-          absurd (elim before [ inl m ↦ omega arith | inr m ↦ let g = m.1 in omega arith ])
-    ]
+    no_earlier e a b k l at = grind (arith, cases_lt, true_before)
 
     pub point_within : Leads (Contains edges) s t → i < length edges
-    point_within leads =
-        let c = leads.1 in
-        let l = no_earlier leads.0 leads.2 leads.3 c.0 c.1 c.2 in
-        let m = c.1 in
-        omega arith
+    point_within leads = grind (arith, no_earlier)
 
     not_before : (d : Edge) → i < length edges → ¬ IsBefore s t (get_or edges i d)
     not_before d l b = let f = sym (before_true s t (get_or edges i d) b) ∙ point.1 i d (omega arith) l in cc

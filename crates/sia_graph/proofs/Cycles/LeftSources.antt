@@ -1,5 +1,5 @@
 -- The least transaction that is left and has an edge to another, by their numbers and by their places in a list.
-use Rattle.std.proofs.Common.{◌≡◌, ◌≢◌, ◌⊎◌, inl, inr, ℕ, ◌+◌, ◌<◌, ◌≤◌, Bool, List, [], ◌∷◌, ◌++◌, length, get_or, refl, ap, sym, subst, ◌∙◌, arith}
+use Rattle.std.proofs.Common.{◌≡◌, ◌≢◌, ◌⊎◌, inl, inr, ℕ, ◌+◌, ◌<◌, ◌≤◌, Bool, List, [], ◌∷◌, ◌++◌, length, get_or, refl, sym, subst, arith}
 use Rattle.std.proofs.lemmas.Bool.{cases_lt}
 use Rattle.std.proofs.lemmas.List.{get_or_append_left, get_or_push, length_push}
 use Rattle.sia_events.specs.declared.event.Event.{Event}
@@ -44,12 +44,4 @@ module _ (h : List Event) (txns : List ℕ) (are : ListsAscending (IsCommitted h
 -- one place more
 pub previous_more : (P : ℕ → ℕ → Type 0) (xs new : List ℕ) (n x : ℕ) → new ≡ xs ++ x ∷ [] → length xs ≡ n → ((j : ℕ) → j < n → P j (get_or xs j 0)) → P n x
     → (length new ≡ n + 1) × ((j : ℕ) → j < n + 1 → P j (get_or new j 0))
-previous_more P xs new n x is long all here = (
-  (let a = ap (length {A = ℕ}) is ∙ length_push xs x in omega arith),
-  λ j l. elim (cases_lt j n) [
-    | inl less ↦ subst (P j) (sym (ap (λ (ys : List ℕ). get_or ys j 0) is ∙ get_or_append_left xs (x ∷ []) 0 j (omega arith))) (all j less)
-    | inr last ↦
-        let e : j ≡ n = omega arith in
-        subst (λ k. P k (get_or new k 0)) (sym e) (subst (P n) (sym (ap (λ (ys : List ℕ). get_or ys n 0) is ∙ get_or_push xs x 0 n long)) here)
-  ],
-)
+previous_more P xs new n x is long all here = grind (arith, length_push, cases_lt, get_or_append_left, get_or_push)

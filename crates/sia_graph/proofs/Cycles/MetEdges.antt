@@ -1,12 +1,11 @@
 -- The edges from one transaction to another are those of the versions that one made and that the other made, saw or missed; and
 -- the least of their keys has the least number.
-use Rattle.std.proofs.Common.{◌≡◌, ◌≢◌, ◌⊎◌, inl, inr, ℕ, ◌<◌, ◌≤◌, List, refl, ap, sym, subst, ◌∙◌, arith}
+use Rattle.std.proofs.Common.{◌≡◌, ◌≢◌, ◌⊎◌, inl, inr, ℕ, ◌<◌, ◌≤◌, List, ap, sym, subst, ◌∙◌, arith}
 use Rattle.std.specs.Prelude.{◌↔◌, ⊤, Contains}
 use Rattle.sia_events.specs.declared.event.Event.{Event}
 use Rattle.sia_events.specs.Dependencies.{RwEdge, WrEdge, WwEdge}
 use Rattle.sia_events.specs.Lists.{ListsAscending}
 use Rattle.sia_events.specs.Refusals.{IsWellFormed}
-use Rattle.sia_events.specs.Transactions.{CommitsAt}
 use Rattle.sia_events.proofs.Writing.WellFormed.{one_commit}
 use Rattle.sia_index.specs.Info.{AreWrittenKeys, IsKeyAt}
 use Rattle.sia_index.specs.Numbers.{IsCommittedAt}
@@ -58,15 +57,7 @@ module _ (h : List Event) (wf : IsWellFormed h) (versions : List KeyVersion) (al
 
   module _ (t u : ℕ) where
     pub not_same : (kind : Kind) (k : ℕ) → EdgeOfKind h kind t u k → t ≢ u
-    not_same Ww k edge same =
-        let w = (ww_positions h wf versions all t u k).0 edge in
-        let m = w.2 in
-        let n = w.3 in
-        let less = commits_less h w.0 w.1 m.0 n.0 m.1 n.1 (m.2 ∙ sym n.2) w.4 in
-        let one = one_commit h wf u m.0.commit n.0.commit (subst (λ x. CommitsAt h x m.0.commit) same (made_commits h wf w.0 t k m).1) (made_commits h wf w.1 u k n).1 in
-        omega arith
-    not_same Wr k edge same = edge.0 same
-    not_same Rw k edge same = edge.0 same
+    not_same kind k p q = grind (arith, ww_positions, commits_less, one_commit, made_commits)
 
     pub ww_met : (by_t by_u : List ℕ) → AreMadeBy h t by_t → AreMadeBy h u by_u → AreNumbersOf h (FromSome (IsMet h Ww by_t) by_u) (WwEdge h t u)
     ww_met by_t by_u source target = (
@@ -166,27 +157,7 @@ module _ (h : List Event) (wf : IsWellFormed h) (versions : List KeyVersion) (al
 -- the least of a kind is the least of all where the kinds before it have none
 pub least_of_kind : (h : List Event) (t u : ℕ) (kind : Kind) (k : ℕ) → IsLeast (EdgeOfKind h kind t u) k → ((other : Kind) (j : ℕ) → kind_number other < kind_number kind → ¬ EdgeOfKind h other t u j)
     → IsLeastEdgeBetween h t u kind k
-least_of_kind h t u kind k least none = (
-  least.0,
-  λ other j edge before. elim before [
-    | inl less ↦ none other j less edge
-    | inr same ↦ elim same.1 [
-      | inl less ↦ let l = least.1 j (subst (λ (x : Kind). EdgeOfKind h x t u j) (of_number other kind same.0) edge) in omega arith
-      | inr rest ↦ rest.1
-    ]
-  ],
-)
-  where
-    of_number : (x y : Kind) → kind_number x ≡ kind_number y → x ≡ y
-    of_number Ww Ww e = refl
-    of_number Wr Wr e = refl
-    of_number Rw Rw e = refl
-    of_number Ww Wr e = absurd (omega arith)
-    of_number Ww Rw e = absurd (omega arith)
-    of_number Wr Ww e = absurd (omega arith)
-    of_number Wr Rw e = absurd (omega arith)
-    of_number Rw Ww e = absurd (omega arith)
-    of_number Rw Wr e = absurd (omega arith)
+least_of_kind h t u kind k least none = grind arith
 
 -- an edge of neither of the first kinds is one of the last
 pub of_last : (h : List Event) (t u k : ℕ) (kind : Kind) → EdgeOfKind h kind t u k → ((j : ℕ) → ¬ WwEdge h t u j) → ((j : ℕ) → ¬ WrEdge h t u j) → RwEdge h t u k

@@ -21,10 +21,7 @@ fed_by_stuck ids IsMember IsEdge IsLeft stuck left set i l is =
 
 -- what leads to a source or to itself leads to a place in the list
 pub stays_within : (ids : List ℕ) (IsEdge : Edge → Type 0) (IsLeft : ℕ → Type 0) (previous : List ℕ) → length previous ≡ length ids → AreLeastSources ids IsEdge IsLeft previous → StaysWithin previous
-stays_within ids IsEdge IsLeft previous long least i l = elim (least i (subst (λ n. i < n) long l)) [
-  | inl is ↦ subst (λ n. get_or previous i 0 < n) (sym long) is.0.0
-  | inr none ↦ let e = none.0 in omega arith
-]
+stays_within ids IsEdge IsLeft previous p q r s = grind arith
 
 -- what is left leads back to least sources, on the whole way back from start, where all that is left has a source that is left
 module _ (ids : List ℕ) (IsEdge : Edge → Type 0) (IsLeft : ℕ → Type 0) (previous : List ℕ) (start : ℕ) (least : AreLeastSources ids IsEdge IsLeft previous) (within : start < length ids) (left : IsLeft start)
@@ -75,7 +72,6 @@ module _ (ids : List ℕ) (IsEdge : Edge → Type 0) (IsLeft : ℕ → Type 0) (
     least_start : (start : ℕ) → ((i : ℕ) → i < start → ¬ IsLeft i) → (t : ℕ) → Contains stuck t → get_or ids start 0 ≤ t
     least_start start none t c =
         let k = (left_ones t).0 c in
-        let e = k.2 in
         elim (cases_lt k.0 start) [
           | inl less ↦ absurd (none k.0 less k.3)
           | inr more ↦ let m = ids_no_less ids up start k.0 more k.1 in omega arith
@@ -100,6 +96,5 @@ module _ (previous : List ℕ) (place period home : ℕ) (some : 0 < period) (ro
   pub least_home : (n : ℕ) → home ≤ back previous n home
   least_home n =
       let w = within_round previous period place some round (reached.0 + n) in
-      let a = low w.0 w.1 in
       let b = w.2 ∙ back_more previous reached.0 n place ∙ ap (back previous n) reached.1 in
       omega arith

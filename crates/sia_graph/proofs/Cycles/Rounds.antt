@@ -1,17 +1,17 @@
 -- The steps of a cycle, made from the last to the first by going back from the least transaction on it.
-use Rattle.std.proofs.Common.{◌≡◌, ◌≢◌, inl, inr, ℕ, ◌+◌, ◌<◌, ◌≤◌, List, [], ◌∷◌, ◌++◌, length, get_or, reverse, ap, refl, sym, ◌∙◌, subst, arith}
+use Rattle.std.proofs.Common.{◌≡◌, ◌≢◌, inl, inr, ℕ, ◌+◌, ◌<◌, ◌≤◌, List, [], ◌∷◌, ◌++◌, length, get_or, reverse, ap, sym, ◌∙◌, subst, arith}
 use Rattle.std.specs.Prelude.{All}
 use Rattle.std.specs.List.Sorted.{IsStrictlyIncreasing}
 use Rattle.std.proofs.lemmas.Bool.{cases_lt}
 use Rattle.std.proofs.lemmas.List.{reverse-append, length_push}
-use Rattle.std.proofs.lemmas.List.Elements.{All-nil, All-push}
+use Rattle.std.proofs.lemmas.List.Elements.{All-push}
 use Rattle.std.proofs.lemmas.List.Sorted.{All-permutation, IsPermutation-reverse}
 use Rattle.sia_parts.specs.declared.finding.Edge.{Edge}
 use Rattle.sia_graph.specs.declared.cycle.Step.{Step}
 use Rattle.sia_graph.specs.Cycles.{IsPrevious, GoesRound, TakesLeastEdge, StartsAtLeast}
 use Rattle.sia_graph.specs.Walks.{back, StaysWithin, LeadsBack, GoesRoundFrom}
 use Rattle.sia_graph.proofs.Shared.AscendingIds.{ids_less}
-use Rattle.sia_graph.proofs.Cycles.Walks.{back_next, stays}
+use Rattle.sia_graph.proofs.Cycles.Walks.{back_next}
 
 -- where the steps start
 abbrev pub start_of : List Step → ℕ → ℕ
@@ -28,8 +28,7 @@ pub record IsPartOfRound (ids : List ℕ) (IsEdge : Edge → Type 0) (previous :
 
 -- no step yet
 pub part_none : (ids : List ℕ) (IsEdge : Edge → Type 0) (previous : List ℕ) (home period : ℕ) → home < length previous → 0 < period → IsPartOfRound ids IsEdge previous home period [] home
-part_none ids IsEdge previous home period inside some =
-    record { inside = inside; few = some; reached = refl; above = All-nil (λ s. get_or ids home 0 < s.txn); round = λ stuck leads. (tt, refl) }
+part_none ids IsEdge previous home period p q = grind arith
 
 -- one more step in front
 step_first : (E : Edge → Type 0) (stuck : List ℕ) (s : Step) (steps : List Step) (home : ℕ) → IsPrevious E stuck s.txn (start_of steps home) → TakesLeastEdge E s (start_of steps home)
@@ -72,7 +71,6 @@ module _ (ids : List ℕ) (up : IsStrictlyIncreasing ids) (IsEdge : Edge → Typ
     reached = next_at ∙ ap (λ k. back previous k home) (sym (length_push made s));
     above = All-push (λ x. get_or ids home 0 < x.txn) made s part.above
         (let l = least (length made + 1) in
-        let m = stays previous within (length made + 1) home in' in
         let e = next_at in
         let less : home < get_or previous at 0 = elim (cases_lt home (get_or previous at 0)) [ inl less ↦ less | inr more ↦ absurd (other (omega arith)) ] in
         let a = ids_less ids up home (get_or previous at 0) less (omega arith) in

@@ -1,5 +1,5 @@
 -- Going back along the least sources.
-use Rattle.std.proofs.Common.{◌≡◌, ◌⊎◌, inl, inr, ℕ, zero, suc, ◌+◌, ◌-◌, ◌<◌, ◌≤◌, Bool, true, false, cond, List, length, get_or, set, replicate, slice_get, Option, Some, None, ap, sym, subst, ◌∙◌, refl, arith}
+use Rattle.std.proofs.Common.{◌≡◌, ◌⊎◌, inl, inr, ℕ, zero, suc, ◌+◌, ◌-◌, ◌<◌, ◌≤◌, Bool, true, false, List, length, get_or, set, replicate, slice_get, Option, Some, None, ap, sym, subst, ◌∙◌, refl, arith}
 use Rattle.std.specs.List.{count_by}
 use Rattle.std.proofs.lemmas.Bool.{cases_eq, cases_lt}
 use Rattle.std.proofs.lemmas.List.{get_or-set_same, get_or-set_other, length-set, length-replicate}
@@ -55,13 +55,7 @@ pub record IsNoted (previous : List ℕ) (start : ℕ) (seen : List (Option ℕ)
 
 module _ (previous : List ℕ) (start : ℕ) (seen : List (Option ℕ)) (steps at : ℕ) (n : IsNoted previous start seen steps at) (d : Option ℕ) where
   pub unseen_fewer : (v : Option ℕ) → is_unseen v ≡ false → get_or seen at d ≡ None → count_by is_unseen (set seen at v) + 1 ≡ count_by is_unseen seen
-  unseen_fewer v noted none =
-      let l = n.long in
-      let w = n.within in
-      let e = sum_by-set (λ o. cond (is_unseen o) 1 0) seen at v d (omega arith) in
-      let a : cond {A = ℕ} (is_unseen (get_or seen at d)) 1 0 ≡ 1 = ap (λ (o : Option ℕ). cond {A = ℕ} (is_unseen o) 1 0) none in
-      let b : cond {A = ℕ} (is_unseen v) 1 0 ≡ 0 = ap (λ c. cond {A = ℕ} c 1 0) noted in
-      omega arith
+  unseen_fewer v noted none = grind (arith, sum_by-set)
 
   pub noted_more : StaysWithin previous → get_or seen at d ≡ None → IsNoted previous start (set seen at (Some steps)) (steps + 1) (get_or previous at 0)
   noted_more within none = record {
@@ -79,7 +73,6 @@ module _ (previous : List ℕ) (start : ℕ) (seen : List (Option ℕ)) (steps a
           let long = length-set seen at (Some steps) in
           let e : get_or seen i d ≡ Some first = sym (get_or-set_other seen at i (Some steps) d other) ∙ get_or_from_slice_get (set seen at (Some steps)) i (Some first) d is in
           let w = n.noted i first (slice_get-get_or seen i d (omega arith) ∙ ap Some e) in
-          let m = w.0 in
           (omega arith, w.1)
     ];
     rest = let e = unseen_fewer (Some steps) refl none in let r = n.rest in omega arith;
@@ -89,7 +82,6 @@ module _ (previous : List ℕ) (start : ℕ) (seen : List (Option ℕ)) (steps a
   round_found first is =
       let l : at < length seen = let a = n.long in let b = n.within in omega arith in
       let w = n.noted at first (slice_get-get_or seen at d l ∙ ap Some is) in
-      let less = w.0 in
       let e : first + (steps - first) ≡ steps = omega arith in
       (w.0, ap (back previous (steps - first)) (sym w.1) ∙ sym (back_more previous first (steps - first) start) ∙ ap (λ k. back previous k start) e ∙ n.reached)
 
@@ -151,7 +143,6 @@ ends_round previous start within l = from (length previous) _ 0 start (none_note
     found seen steps at n first is =
         let w = round_found previous start seen steps at n None first is in
         let r = n.rest in
-        let l = w.0 in
         let e : steps + (length previous - steps) ≡ length previous = omega arith in
         let there : back previous (length previous - steps) at ≡ back previous (length previous) start =
         ap (back previous (length previous - steps)) (sym n.reached) ∙ sym (back_more previous steps (length previous - steps) start) ∙ ap (λ k. back previous k start) e in

@@ -177,15 +177,7 @@ module _ (floor : ℕ) where
           ]
 
           moved_once : IsOnce (front ++ (ys ++ r ∷ zs))
-          moved_once =
-              let both = p.once apart.1.1 in
-              once_join front (ys ++ r ∷ zs) apart.0
-              (once_join ys (r ∷ zs) both.0 ((λ i. apart.1.0 (p.whole r (inr i))), both.1)
-              (λ t i j. elim j [
-                | inl e ↦ apart.1.0 (subst (λ x. In x rest) (sym e) (p.whole t (inl i)))
-                | inr k ↦ p.right t k (p.left t i)
-              ]))
-              (λ t i j. apart.2 t i (from_moved t j))
+          moved_once = grind (arith, apart, once_join, from_moved)
 
           within : (x y : ℕ) → Step x y → IsAhead x y (r ∷ rest) → IsAhead x y (ys ++ r ∷ zs)
           within x y step (inl w) = elim (p.parts y w.1) [

@@ -1,11 +1,10 @@
 -- Where isolation is kept, rw edges and commits alone tell which transactions overlap.
-use Rattle.std.proofs.Common.{◌≡◌, ◌≢◌, ◌⊎◌, inl, inr, ℕ, ◌<◌, ◌≤◌, List, sym, subst, arith}
+use Rattle.std.proofs.Common.{◌≡◌, ◌≢◌, ◌⊎◌, inl, inr, ℕ, ◌<◌, ◌≤◌, List, subst, arith}
 use Rattle.std.proofs.lemmas.Bool.{cases_lt}
 use Rattle.sia_events.specs.declared.event.Event.{Event}
 use Rattle.sia_events.specs.Refusals.{IsWellFormed}
 use Rattle.sia_events.specs.Transactions.{IsCommitted, CommitsAt, CommitsBefore, Overlap}
 use Rattle.sia_events.specs.Isolation.{IsolationKept}
-use Rattle.sia_events.specs.Dependencies.{IsVersionBefore, IsCommittedWriter}
 use Rattle.sia_events.specs.DangerousStructures.{IsFirst, IsVulnerable}
 use Rattle.sia_events.proofs.Writing.WellFormed.{one_commit}
 use Rattle.sia_graph.specs.Extremes.{HasRwEdge, IsFirstByCommits, IsAfterSeen, FirstsLaw}
@@ -15,18 +14,11 @@ use Rattle.sia_graph.proofs.Shared.NoStuckSet.{rw_unseen}
 module _ (h : List Event) (wf : IsWellFormed h) where
   -- no transaction commits before itself
   not_before_itself : (t u : ℕ) → CommitsBefore h t u → t ≢ u
-  not_before_itself t u before same =
-      let l = commits_lt h wf t u before.0 before.1 before.2 before.3 before in
-      let e : before.0 ≡ before.1 = one_commit h wf u before.0 before.1 (subst (λ x. CommitsAt h x before.0) same before.2) before.3 in
-      omega arith
+  not_before_itself t u before same = grind (arith, commits_lt, one_commit)
 
   -- what comes after a version that t saw, and isn't t's, has an rw edge from t
   seen_edge : (t u : ℕ) → IsCommitted h t → u ≢ t → IsAfterSeen h t u → HasRwEdge h t u
-  seen_edge t u committed other seen = (seen.0, (λ e. other (sym e), committed, writer seen.6, seen.1, seen.2, seen.3, seen.4, seen.5, seen.6))
-    where
-      writer : IsVersionBefore h seen.0 seen.2 u → IsCommittedWriter h seen.0 u
-      writer (inl first) = first.1
-      writer (inr later) = (later.1, (later.2.1, later.2.3))
+  seen_edge t u committed other seen = grind arith
 
   edge_seen : (t u : ℕ) → HasRwEdge h t u → IsAfterSeen h t u
   edge_seen t u e = (e.0, e.1.3, e.1.4, e.1.5, e.1.6, e.1.7, e.1.8)
@@ -62,7 +54,6 @@ module _ (h : List Event) (wf : IsWellFormed h) where
         let out = lifetime_of h wf out_to f.0.1.2.1 in
         let before = commits_lt h wf out_to t out.commit mid.commit out.commits mid.commits f.1 in
         let starts : mid.start < out.commit = starts_before t out_to mid out f.0 in
-        let o = out.ordered in
         ((overlap t out_to mid out starts (omega arith), f.0.0, f.0.1), f.1, f.2.0, entered_from t out_to f.0 f.1 f.2.0 f.2.1 f.2.2, f.2.2)
 
 pub firsts_hold : (h : List Event) → IsWellFormed h → FirstsLaw h

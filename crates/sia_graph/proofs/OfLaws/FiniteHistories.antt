@@ -1,5 +1,5 @@
 -- A well-formed history has a list of its edges and a list of its pivots.
-use Rattle.std.proofs.Common.{◌≡◌, ◌⊎◌, inl, ℕ, suc, zero, List, [], ◌∷◌, Some, map, flat_map, refl, ap, sym, subst, arith}
+use Rattle.std.proofs.Common.{◌≡◌, ◌⊎◌, inl, ℕ, List, [], ◌∷◌, Some, map, flat_map, refl, ap, sym, subst, arith, rules}
 use Rattle.std.specs.Prelude.{All, Contains, ⊤}
 use Rattle.std.proofs.lemmas.Bool.{cases_eq}
 use Rattle.std.proofs.lemmas.List.Elements.{All-nil, All-cons}
@@ -15,7 +15,7 @@ use Rattle.sia_events.proofs.Shared.Decisions.{Decided, both, decided_alike}
 use Rattle.sia_parts.specs.declared.finding.Edge.{Edge}
 use Rattle.sia_parts.specs.declared.finding.Kind.{Kind}
 use Rattle.sia_parts.specs.declared.finding.Kind.TheVariants.{Ww, Wr, Rw}
-use Rattle.sia_parts.specs.Entries.{EdgeOfKind, IsEdge, edge_rank, kind_number}
+use Rattle.sia_parts.specs.Entries.{EdgeOfKind, IsEdge, edge_rank}
 use Rattle.sia_parts.specs.Findings.{ListsEdges}
 use Rattle.sia_graph.specs.declared.pivot.Pivot.{Pivot}
 use Rattle.sia_graph.specs.Pivots.{ListsNeighbours, ArePivots}
@@ -32,17 +32,10 @@ use Rattle.sia_graph.proofs.OfPivots.Vulnerable.{target_committed, source_commit
 
 -- its rank tells an edge
 edge_told : (x y : Edge) → edge_rank x ≡ edge_rank y → x ≡ y
-edge_told x y e =
-    let src : x.src ≡ y.src = cc in
-    let dst : x.dst ≡ y.dst = cc in
-    let number : kind_number x.kind ≡ kind_number y.kind = cc in
-    let key : x.key ≡ y.key = cc in
-    let kind = same_kind x.kind y.kind number in
-    λ i. record { src = src i; dst = dst i; kind = kind i; key = key i }
+edge_told x y e = grind (arith, same_kind)
 
 pub event_in : (h : List Event) (p : ℕ) (e : Event) → at_place h p ≡ Some e → Contains h e
-event_in h zero e at = absurd cc
-event_in h (suc i) e at = stands_contains h e (i, at)
+event_in h p e q = grind (arith, stands_contains)
 
 -- the edges that there may be by a write, and an event of the other transaction
 abbrev edges_by : Event → Event → List Edge
@@ -91,9 +84,7 @@ module _ (h : List Event) (wf : IsWellFormed h) where
     IsNoEarlier s = IsVulnerable h s t × ((u ≡ s) ⊎ CommitsBefore h u s)
 
     no_earlier_or_not : (s : ℕ) → Decided (IsNoEarlier s)
-    no_earlier_or_not s =
-        both (IsVulnerable h s t) ((u ≡ s) ⊎ CommitsBefore h u s) (vulnerable_decided h wf s t)
-        (either_decided (u ≡ s) (CommitsBefore h u s) (cases_eq u s) (commits_before_decided h wf u s))
+    no_earlier_or_not s = search (rules, arith, both, vulnerable_decided, either_decided, cases_eq, commits_before_decided)
 
     first_or_not : Decided (IsFirst h t u)
     first_or_not =

@@ -36,12 +36,7 @@ right_from h events i (Commit t) k f same r = λ v s. r v s ∙ same
 right_from h events i (Abort t) k f same r = λ v s. r v s ∙ same
 
 right_to : (h : List Event) (events : List (ℕ × Event)) (i : ℕ) (e : Event) (k : ℕ) → IsRight h (found_at events i k) e k → IsRightAt h events i e k
-right_to h events i (Write t key) k r = r
-right_to h events i (Begin t start) k r = r
-right_to h events i (Read t key saw) k r = r
-right_to h events i (Range t lo hi listed) k r = r
-right_to h events i (Commit t) k r = r
-right_to h events i (Abort t) k r = r
+right_to h events i e k p = grind arith
 
 take_next : (xs : List ℕ) (j t : ℕ) → slice_get xs j ≡ Some t → take (suc j) xs ≡ take j xs ++ t ∷ []
 take_next [] j t e = cc
@@ -68,8 +63,7 @@ taken_slice (f ∷ h) (suc i) (suc j) e l at = taken_slice h i j e (omega arith)
 
 module _ (h : List Event) where
   wrote_at : (t k p : ℕ) → at_place h p ≡ Some (Write t k) → Writes h t k
-  wrote_at t k zero at = cc
-  wrote_at t k (suc i) at = (i, at)
+  wrote_at t k p q = grind arith
 
   writes_before : (t k i : ℕ) → Writes (take i h) t k → WroteBefore h t k (suc i)
   writes_before t k i w = let s = slice_taken h i w.0 (Write t k) w.1 in let l = s.0 in (suc w.0, omega arith, s.1)
@@ -107,7 +101,6 @@ module _ (h : List Event) where
       w.1,
     )
     quiet j f none (inr w) =
-        let l = w.1 in
         inr (
           w.0,
           omega arith,

@@ -13,7 +13,7 @@ use Rattle.sia_graph.specs.declared.cycle.Step.{Step}
 use Rattle.sia_graph.specs.declared.judgement.Verdict.{Verdict}
 use Rattle.sia_graph.specs.declared.judgement.Verdict.TheVariants.{Order, Cycle}
 use Rattle.sia_graph.specs.Orders.{IsLeastOrder}
-use Rattle.sia_graph.specs.Cycles.{IsPrevious, GoesBack, GoesRound, TakesLeastEdge, StartsAtLeast, IsPrintedCycle, step_edge}
+use Rattle.sia_graph.specs.Cycles.{IsPrevious, GoesBack, GoesRound, TakesLeastEdge, StartsAtLeast, IsPrintedCycle}
 use Rattle.sia_graph.specs.Verdicts.{IsVerdict}
 
 -- neither of two lists is before the other only if they are one
@@ -29,9 +29,7 @@ kind_of (suc zero) = Wr
 kind_of (suc (suc n)) = Rw
 
 kind_told : (k : Kind) → kind_of (kind_number k) ≡ k
-kind_told Ww = refl
-kind_told Wr = refl
-kind_told Rw = refl
+kind_told k = grind arith
 
 pub same_kind : (k l : Kind) → kind_number k ≡ kind_number l → k ≡ l
 same_kind k l e = sym (kind_told k) ∙ ap kind_of e ∙ kind_told l
@@ -87,13 +85,7 @@ module _ (E : Edge → Type 0) (S : List ℕ) where
 
   -- one step can lead back from a transaction to another
   one_step : (s r : Step) (next : ℕ) → s.txn ≡ r.txn → TakesLeastEdge E s next → TakesLeastEdge E r next → s ≡ r
-  one_step s r next e a b =
-      let same = neither_before (kind_number s.kind ∷ s.key ∷ []) (kind_number r.kind ∷ r.key ∷ [])
-      (b.1 (step_edge s next) a.0 e refl) (a.1 (step_edge r next) b.0 (sym e) refl) in
-      let k : kind_number s.kind ≡ kind_number r.kind = cc in
-      let j : s.key ≡ r.key = cc in
-      let kind = same_kind s.kind r.kind k in
-      λ i. record { txn = e i; kind = kind i; key = j i }
+  one_step s r next e a b = grind (arith, neither_before, same_kind)
 
   same_home : (s r : Step) (ss rs : List Step) → GoesRound E S (s ∷ ss) s.txn → GoesRound E S (r ∷ rs) r.txn → StartsAtLeast ss s.txn → StartsAtLeast rs r.txn
       → (n m least : ℕ) → GoesBack E S n least s.txn → GoesBack E S m least r.txn → n ≤ m → s.txn ≡ r.txn
@@ -124,8 +116,7 @@ StandsLast c (x ∷ []) = x.txn ≡ c
 StandsLast c (x ∷ y ∷ r) = (c < x.txn) × StandsLast c (y ∷ r)
 
 later_above : (c : ℕ) (x : Step) (r : List Step) → c < x.txn → StandsLast c r → StandsLast c (x ∷ r)
-later_above c x [] l f = absurd f
-later_above c x (y ∷ r) l f = (l, f)
+later_above c x r p q = grind arith
 
 turned : (c : ℕ) (r rest : List Step) → StandsLast c r → StartsAtLeast rest c → (b : List Step) × (forwards b ≡ forwards r ++ rest) × StandsLast c b
 turned c r [] f a = (r, sym (append-nil (forwards r)), f)
@@ -154,8 +145,6 @@ module _ (E : Edge → Type 0) (S : List ℕ) where
       let p = round_last E S (forwards (w ∷ xs)) x home g in
       let q = round_last E S [] y home h in
       let e = one_previous E S x.txn y.txn home p.0 q.0 in
-      let l : c < x.txn = a.0 in
-      let m : y.txn ≡ c = b in
       absurd (omega arith)
   same_back c home (x ∷ w ∷ xs) (y ∷ z ∷ ys) g h a b =
       let p = round_last E S (forwards (w ∷ xs)) x home g in

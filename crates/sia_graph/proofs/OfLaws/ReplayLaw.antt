@@ -24,16 +24,7 @@ use Rattle.sia_graph.proofs.OfLaws.Found.{IsLastWriter, IsFound, IsRight, replay
 module _ (h : List Event) (wf : IsWellFormed h) (order : List ℕ) (is_order : IsOrder h order) where
   -- a transaction stands at one place
   one_place : (i j t u : ℕ) → t ≡ u → slice_get order i ≡ Some t → slice_get order j ≡ Some u → i ≡ j
-  one_place i j t u same a b = elim (cases_order i j) [
-    | inl e ↦ e
-    | inr (inl less) ↦ absurd (apart i j t u same a b less)
-    | inr (inr more) ↦ absurd (apart j i u t (sym same) b a more)
-  ]
-    where
-      apart : (i j t u : ℕ) → t ≡ u → slice_get order i ≡ Some t → slice_get order j ≡ Some u → ¬ (i < j)
-      apart i j t u same a b less =
-          is_order.once i j 0 less (slice_get_within order j u b)
-          (get_or_from_slice_get order i t 0 a ∙ same ∙ sym (get_or_from_slice_get order j u 0 b))
+  one_place i j t u same a b = grind (arith, cases_order, slice_get_within, get_or_from_slice_get)
 
   place_of : (t : ℕ) → IsCommitted h t → (i : ℕ) × (slice_get order i ≡ Some t)
   place_of t c =
@@ -45,11 +36,7 @@ module _ (h : List Event) (wf : IsWellFormed h) (order : List ℕ) (is_order : I
 
   -- a transaction that stands before another doesn't stand after it
   in_turn : (t u i j : ℕ) → StandsBefore order t u → slice_get order i ≡ Some t → slice_get order j ≡ Some u → i < j
-  in_turn t u i j before a b =
-      let p : before.0 ≡ i = one_place before.0 i t t refl before.3 a in
-      let q : before.1 ≡ j = one_place before.1 j u u refl before.4 b in
-      let l = before.2 in
-      omega arith
+  in_turn t u i j before a b = grind (arith, one_place)
 
   seen_written : (p t k v : ℕ) → SawAt h p t k v → v ≢ 0 → WroteBefore h v k p
   seen_written p t k v saw other = seen_was_written h wf p k v saw.0 saw.1 saw.3 other
@@ -229,7 +216,6 @@ module _ (h : List Event) (wf : IsWellFormed h) (order : List ℕ) (is_order : I
         by_found j at (inr (before, inr w)) (inr (inr both)) =
             let a = place_of t e.1.1 in
             let l = in_turn t e.4 a.0 w.0 (ww_kept k t e.4 both) a.1 w.2 in
-            let m = w.1 in
             (a.0, j, omega arith, a.1, at)
 
     rw_kept : (k t u : ℕ) → RwEdge h t u k → StandsBefore order t u

@@ -58,7 +58,6 @@ split_by_test : (t n : ℕ) (f : Event) (h : List Event) (es : List (ℕ × Even
     → (m p : ℕ) (e : Event) → slice_get (cond b ((n, f) ∷ es) es) m ≡ Some (p, e) → IsOwnPlace t n (f ∷ h) (cond b ((n, f) ∷ es) es) m p e
 split_by_test t n f h es true test rest zero p e at =
     let parts = some_pair_parts n p f e at in
-    let same : n ≡ p = parts.0 in
     (0, omega arith, ap Some parts.1, sym (ap actor parts.1) ∙ eqb-true (actor f) t test, refl)
 split_by_test t n f h es true test rest (suc m) p e at =
     let r = rest m p e at in

@@ -176,7 +176,6 @@ module _ (n : Neighbours) (can : CanFind n) (i t : ℕ) (at : IsCommittedAt n.ev
                 | inl under ↦ elim gone [
                   | inl none ↦ absurd (let zero = none.1 in omega arith)
                   | inr last ↦
-                      let begins = last.3.1 c.0 p under in
                       let own = ap (λ (x : Passing). x.from) c.2 in
                       let up = key_rises last.1 last.0 last.2 in
                       (passers row).1 (inl ((lookers row).1 (inl ((before row).1 (inr (low, last.0, (is, last.1, last.2, inr (miss, missed.1, omega arith, omega arith))))))))

@@ -47,8 +47,6 @@ module _ (n : Neighbours) (can : CanFind n) where
     begins_before from to begins point = elim (cases_lt to from) [
       | inl less ↦
           let d : Passing = record { from = 0; to = 0; reader = 0 } in
-          let all = begins.0 in
-          let up = begins.1 to d less in
           let over = leb-false _ _ (point.1 to d (omega arith) (omega arith)) in
           absurd (omega arith)
       | inr most ↦ most
@@ -59,11 +57,7 @@ module _ (n : Neighbours) (can : CanFind n) where
 
     -- those that were passed by don't reach behind the key
     passed_by : (at to k : ℕ) (p : Passing) → to ≤ length n.passings.items → AllWithin (λ (x : Passing). 4294967295 - j ≤ 4294967295 - x.to) n.passings.items at to → at ≤ k → k < to → slice_index_or n.passings.items k p ≡ p → p.to ≤ j
-    passed_by at to k p most none low high same =
-        let few = few_at k p (omega arith) in
-        let most = none k p low high in
-        let own = ap (λ (x : Passing). x.to) same in
-        omega arith
+    passed_by at to k p most none low high same = grind (arith, few_at)
 
     pub passers_more : (from at next : ℕ) (d : Passing) → from ≤ at → at ≤ next → next < length n.passings.items → (at_place next d).from ≤ j → 4294967295 - (at_place next d).to < 4294967295 - j
         → AllWithin (λ (x : Passing). 4294967295 - j ≤ 4294967295 - x.to) n.passings.items at next
@@ -98,7 +92,6 @@ module _ (n : Neighbours) (can : CanFind n) where
           | inr behind ↦ absurd (
               let begins = leb-false _ _ (point.1 is.0 is.1 behind is.3) in
               let own = ap (λ (x : Passing). x.from) is.4 in
-              let up = is.5 in
               omega arith)
         ]
       ]),

@@ -35,9 +35,7 @@ pub same_role : (r s : Role) → sameb the_type r s ≡ true → r ≡ s
 same_role r s same = same_true the_type (search rules) r s same
 
 pub role_same : (r s : Role) → r ≡ s → sameb the_type r s ≡ true
-role_same In s same = subst (λ x. sameb the_type In x ≡ true) same refl
-role_same Out s same = subst (λ x. sameb the_type Out x ≡ true) same refl
-role_same First s same = subst (λ x. sameb the_type First x ≡ true) same refl
+role_same r s p = grind (arith, sameb)
 
 pub last_same : (P Q : ℕ → Type 0) (last : ℕ) → ((y : ℕ) → P y ↔ Q y) → IsLastOf P last → IsLastOf Q last
 last_same P Q last same is x some = (
@@ -68,14 +66,12 @@ first_by h wf t own last commits greatest u e v ends = (
       let b = first.1 in
       let one = one_commit h wf u b.0 e b.2 ends in
       let two = one_commit h wf t b.1 own b.3 commits in
-      let early = b.4 in
       let y = source_committed h first.2 t first.3 in
       let le : e ≤ y.0 = elim first.4 [
         | inl same ↦ let z = one_commit h wf u e y.0 ends (subst (λ x. CommitsAt h x y.0) (sym same) y.1) in omega arith
         | inr before ↦
             let p = one_commit h wf u before.0 e before.2 ends in
             let q = one_commit h wf first.2 before.1 y.0 before.3 y.1 in
-            let less = before.4 in
             omega arith
       ] in
       let most = (greatest e (commits_above h u e ends)).1 (y.0, (first.2, first.3, y.1), le) in
@@ -112,12 +108,7 @@ few_within {A} (x ∷ xs) ys apart within = elim (cases_lt (length xs) (length y
 ]
 
 is_out_true : (n : Neighbour) → is_out n ≡ true → n.role ≡ Out
-is_out_true n is = of_role n.role is
-  where
-    of_role : (role : Role) → is_out (record { role = role; txn = n.txn }) ≡ true → role ≡ Out
-    of_role In is = absurd cc
-    of_role Out is = refl
-    of_role First is = absurd cc
+is_out_true n is = grind arith
 
 pub out_is : (n : Neighbour) → n.role ≡ Out → is_out n ≡ true
 out_is n role = subst (λ r. is_out (record { role = r; txn = n.txn }) ≡ true) (sym role) refl

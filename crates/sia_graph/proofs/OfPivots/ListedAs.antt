@@ -11,10 +11,7 @@ use Rattle.sia_events.specs.Lists.{Precedes, ListsBy}
 
 -- what is listed, in other words
 pub listed_as : {A : Type 0} (rank : A → List ℕ) (P Q : A → Type 0) → ((x : A) → P x ↔ Q x) → (xs : List A) → ListsBy rank P xs → ListsBy rank Q xs
-listed_as rank P Q same xs l = record {
-  ascending = l.ascending;
-  each = λ x. ((λ c. (same x).0 ((l.each x).0 c)), (λ q. (l.each x).1 ((same x).1 q)));
-}
+listed_as rank P Q same xs l = grind arith
 
 -- a list without repeats, in an order that goes with the ranks, that holds what another holds
 pub listed_in_order : {A : Type 0} (rank : A → List ℕ) (c : A → A → Ordering) → ((x y : A) → c x y ≡ Less → Precedes (rank x) (rank y))

@@ -66,10 +66,7 @@ pub outs_same : (P Q : ℕ → Type 0) → ((j : ℕ) → P j ↔ Q j) → (n : 
 outs_same P Q same n = ((λ p. (p.0, (same n.txn).0 p.1)), (λ q. (q.0, (same n.txn).1 q.1)))
 
 pub outs_both : (P Q R : ℕ → Type 0) → ((j : ℕ) → (P j ⊎ Q j) ↔ R j) → (n : Neighbour) → (IsOut P n ⊎ IsOut Q n) ↔ IsOut R n
-outs_both P Q R same n = (
-  (λ e. elim e [ inl p ↦ (p.0, (same n.txn).0 (inl p.1)) | inr q ↦ (q.0, (same n.txn).0 (inr q.1)) ]),
-  (λ r. elim ((same n.txn).1 r.1) [ inl p ↦ inl (r.0, p) | inr q ↦ inr (r.0, q) ]),
-)
+outs_both P Q R same n = grind arith
 
 pub adds_same_outs : (P Q : ℕ → Type 0) (old new : List Neighbour) → ((j : ℕ) → P j ↔ Q j) → Adds (IsOut P) old new → Adds (IsOut Q) old new
 adds_same_outs P Q old new same = adds_same (IsOut P) (IsOut Q) old new (λ n. (outs_same P Q same n).0) (λ n. (outs_same P Q same n).1)
@@ -191,7 +188,6 @@ module _ (h : List Event) (i : ℕ) where
               | inr under ↦ inl (p.0, p.1, p.2, p.3, p.4, p.5, p.6, under, p.8, p.9)
               | inl over ↦
                   let l = next.3 p.1 p.2 (subst (λ k. CommitsVersion h k p.1 p.2) (sym key) p.5) over in
-                  let m = p.7 in
                   let e : p.2 ≡ w.commit = omega arith in
                   let one : p.1 ≡ w.txn = one_committer h p.1 w.txn w.commit (subst (CommitsAt h p.1) e p.5.1) own.1 in
                   inr (p.0, p.3, subst (IsCommittedAt h j) one p.4, p.8, subst (Overlap h p.0) one p.9)
@@ -256,8 +252,6 @@ module _ (h : List Event) (i : ℕ) where
         (λ e. elim e [
           | inl first ↦ (first_more (OverlapsIn h i) misses n d below j).0 (inl first)
           | inr p ↦
-              let a = p.2 in
-              let b = p.3 in
               (first_more (OverlapsIn h i) misses n d below j).0 (inr (p.0, p.1, omega arith, elim within [ inl e ↦ absurd (omega arith) | inr e ↦ omega arith ], p.4, p.5))
         ]),
         (λ f. elim ((first_more (OverlapsIn h i) misses n d below j).1 f) [

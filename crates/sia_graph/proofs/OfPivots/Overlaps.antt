@@ -1,5 +1,5 @@
 -- Lifetimes and makers by the numbers of transactions.
-use Rattle.std.proofs.Common.{◌≡◌, ℕ, ◌<◌, List, Option, Some, None, length, get_or, subst, arith}
+use Rattle.std.proofs.Common.{◌≡◌, ℕ, ◌<◌, List, Option, length, get_or, subst, arith}
 use Rattle.std.specs.Prelude.{MatchOption, unwrap_or}
 use Rattle.sia_events.specs.declared.event.Event.{Event}
 use Rattle.sia_events.specs.Lists.{ListsAscending}
@@ -15,10 +15,8 @@ pub lived : (h : List Event) (lifetimes : List Lifetime) → ((txns : List ℕ) 
 lived h lifetimes are i t at =
     let all = are at.0 at.1 in
     let below = at.2 in
-    let long = all.long in
     (omega arith, λ d. subst (λ u. IsLifetime h u (get_or lifetimes i d)) at.3 (all.each i d below))
 
 -- who made the version at a position, by what an index answers
 pub maker_is : (h : List Event) (i : ℕ) (o : Option ℕ) (w : KeyVersion) → MatchOption o (w.commit ≡ 0) (λ j. (0 < w.commit) × IsCommittedAt h j w.txn) → 0 < w.commit → IsCommittedAt h (unwrap_or o i) w.txn
-maker_is h i None w none some = absurd (omega arith)
-maker_is h i (Some j) w is some = is.1
+maker_is h i o w p q = grind arith

@@ -13,10 +13,7 @@ module _ {A : Type 0} (rank : A → List ℕ) (Q : A → Type 0) (xs : List A) w
   ArePicked n ys = ListsBy rank (λ x. Contains (take n xs) x × Q x) ys
 
   pub none_picked : ArePicked 0 []
-  none_picked = record {
-    ascending = λ i j d less below. absurd (omega arith);
-    each = λ x. ((λ c. absurd (let below = c.1 in omega arith)), (λ w. absurd (let below = w.0.1 in omega arith)));
-  }
+  none_picked = grind arith
 
   module _ (up : AllPairs (λ x y. Precedes (rank x) (rank y)) xs) (n : ℕ) (d : A) (within : n < length xs) (ys now : List A) (are : ArePicked n ys) where
     abbrev next : A
@@ -33,7 +30,6 @@ module _ {A : Type 0} (rank : A → List ℕ) (Q : A → Type 0) (xs : List A) w
     before_next k e l =
         let y = get_or ys k e in
         let at = ((are.each y).0 (k, l, get_or_default ys k y e l)).0 in
-        let below = at.1 in
         let long = length-take n xs in
         let same : get_or xs at.0 d ≡ y = get_or_default xs at.0 d y (omega arith) ∙ sym (get_or-take n xs at.0 y (omega arith)) ∙ at.2 in
         subst (λ z. Precedes (rank z) (rank next)) same (up at.0 n d (omega arith) within)

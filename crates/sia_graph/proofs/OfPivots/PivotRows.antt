@@ -33,15 +33,7 @@ use Rattle.sia_parts.proofs.Shared.OneNumber.{one_committed as one_txn_at}
 
 -- roles go by their numbers
 role_order : (r s : Role) → cmp-value.it r s ≡ nat_cmp (role_number r) (role_number s)
-role_order In In = refl
-role_order In Out = refl
-role_order In First = refl
-role_order Out In = refl
-role_order Out Out = refl
-role_order Out First = refl
-role_order First In = refl
-role_order First Out = refl
-role_order First First = refl
+role_order r s = grind arith
 
 abbrev pub by_neighbour : Neighbour → Neighbour → Ordering
 by_neighbour m n = ordering_then (cmp-value.it m.role n.role) (nat_cmp m.txn n.txn)
@@ -113,10 +105,7 @@ all_neighbours h i rows all found pivot are firsts up same = record {
     by_role n First is has = (firsts n).1 (inr (is, subst (λ r. HasRole h i r n.txn) is has))
 
 pub no_neighbours : (h : List Event) (i : ℕ) (found : List Neighbour) → length found ≡ 0 → ¬ IsPivotAt h i → AreNeighbours h i found
-no_neighbours h i found none not = record {
-  ascending = λ j k d less below. absurd (omega arith);
-  each = λ n. ((λ c. absurd (let below = c.1 in omega arith)), (λ p. absurd (not p.0)));
-}
+no_neighbours h i found none not = grind arith
 
 module _ (h : List Event) (n t : ℕ) (at : IsCommittedAt h n t) where
   same_pivot : (p : IsPivotAt h n) → IsPivot h t
@@ -130,7 +119,6 @@ module _ (h : List Event) (n t : ℕ) (at : IsCommittedAt h n t) where
       let look = look_of_rw h wf k into.0 t into.1.2 in
       let m = made_at h wf versions are k t look.1 look.2 in
       let has = (all.each m.0).1 (m.1.0, m.1.1, m.1.4, m.1.3) in
-      let below = has.1 in
       omega arith
 
   -- nor who has no outs
@@ -139,7 +127,6 @@ module _ (h : List Event) (n t : ℕ) (at : IsCommittedAt h n t) where
       let out = (same_pivot p).1 in
       let j = number_of h at.0 at.1 out.0 (target_committed h t out.0 out.1) in
       let has = all (record { role = Out; txn = j.0 }) refl (t, out.0, at, j.1, out.1) in
-      let below = has.1 in
       omega arith
 
   -- nor who has no ins

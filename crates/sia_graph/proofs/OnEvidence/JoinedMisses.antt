@@ -1,5 +1,5 @@
 -- Range misses in order, joined one after another: what was reached before is passed over once.
-use Rattle.std.proofs.Common.{◌≡◌, ◌⊎◌, inl, inr, ℕ, ◌+◌, ◌<◌, ◌≤◌, List, length, get_or, take, refl, sym, subst, ◌∙◌, ap, arith}
+use Rattle.std.proofs.Common.{◌≡◌, ◌⊎◌, inl, inr, ℕ, ◌+◌, ◌<◌, ◌≤◌, List, length, get_or, take, sym, subst, ◌∙◌, ap, arith}
 use Rattle.std.specs.Prelude.{◌↔◌, Contains}
 use Rattle.std.specs.List.Sorted.{IsNonDecreasingBy}
 use Rattle.std.proofs.lemmas.Bool.{cases_lt}
@@ -24,11 +24,7 @@ module _ (keys : List ℕ) (misses : List RangeMiss) (own₀ : List ℕ) (held�
   none_first j f = let l = f.1.1 in omega arith
 
   pub joined_none : HasJoinedTo keys misses 0 own₀ own₀ held₀ held₀ 0
-  joined_none = record {
-    own_are = adds_nothing (λ j. FromFirst Holds misses 0 j × Contains keys j) own₀ (λ j p. none_first j p.0);
-    held_are = λ j. ((λ u. inl u), (λ e. elim e [ inl u ↦ u | inr p ↦ absurd (none_first j p.0) ]));
-    reached_by = inl refl;
-  }
+  joined_none = grind (arith, adds_nothing, none_first)
 
   module _ (rise : IsNonDecreasingBy (λ (s : RangeMiss). s.from) misses) (n : ℕ) (d : RangeMiss) (below : n < length misses) (reached from : ℕ)
       (low : (get_or misses n d).from ≤ from) (past : reached ≤ from) (least : (from ≤ (get_or misses n d).from) ⊎ (from ≤ reached))
@@ -48,8 +44,6 @@ module _ (keys : List ℕ) (misses : List RangeMiss) (own₀ : List ℕ) (held�
               get_or_default misses c.0 d s.0 (omega arith) ∙ sym (get_or-take n misses c.0 s.0 under) ∙ c.2 in
               let up : (get_or misses c.0 d).from ≤ (get_or misses n d).from = rise c.0 n d (omega arith) below in
               let f = ap (λ (x : RangeMiss). x.from) is in
-              let h = here.0 in
-              let e = s.2 in
               (s.0, c, (omega arith, elim least [ inl a ↦ absurd (omega arith) | inr a ↦ omega arith ]))
         ])
       ]

@@ -1,6 +1,6 @@
 -- What follows from the findings of a history: what is settled, and whether a serial order replays it.
 use Rattle.std.proofs.Common.{◌≡◌, ◌↔◌, ◌⊎◌, inl, inr, ℕ, Bool, List, [], ◌∷◌, refl, subst, arith}
-use Rattle.std.specs.Prelude.{IsTrue, IfOk, MatchOption, None, Option, Result, Some, Err, Ok, ⊤}
+use Rattle.std.specs.Prelude.{IsTrue, IfOk, MatchOption, Option, Result, ⊤}
 use Rattle.sia_events.specs.declared.event.Event.{Event}
 use Rattle.sia_events.specs.Lists.{ListsBy}
 use Rattle.sia_events.specs.Refusals.{IsWellFormed}
@@ -29,8 +29,7 @@ use Rattle.sia_graph.specs.Verdicts.{IsOrderVerdict}
 module _ {A : Type 0} (rank : A → List ℕ) (P : A → Type 0) where
   -- nothing has P where the list is empty
   pub none_listed : (xs : List A) → ListsBy rank P xs → xs ≡ [] → (x : A) → ¬ P x
-  none_listed [] l e x p = let c = (l.each x).1 p in absurd (let b = c.1 in omega arith)
-  none_listed (y ∷ ys) l e x p = cc
+  none_listed xs p q x r = grind arith
 
   -- the list is empty where nothing has P
   pub empty_list : (xs : List A) → ListsBy rank P xs → ((x : A) → ¬ P x) → xs ≡ []
@@ -70,11 +69,7 @@ module _ (h : List Event) where
         by_verdict (Cycle steps) i = absurd (i.0 order (keeping order ordered kept))
 
     kept_order : IsOrderVerdict v → (order : List ℕ) × IsOrder h order × Keeps (HasEdge h) order
-    kept_order ordered = by_verdict v is ordered
-      where
-        by_verdict : (w : Verdict) → IsVerdict (IsCommitted h) (IsEdge h) w → IsOrderVerdict w → (order : List ℕ) × IsOrder h order × Keeps (HasEdge h) order
-        by_verdict (Order least) i o = (least, i.0.0, λ t u e. i.0.1 t u (edge_leads t u e))
-        by_verdict (Cycle steps) i o = absurd o
+    kept_order ordered = grind (arith, edge_leads)
 
     module _ (unexplained : List Unexplained) (found : ListsUnexplained h (λ _. ⊤) unexplained) where
       all_explained : unexplained ≡ [] → NoneUnexplained h
@@ -97,10 +92,7 @@ module _ (h : List Event) where
 
       -- what passes the test of serializable snapshot isolation is serializable, and its verdict is an order
       pub passed_is_serializable : SsiLaw h → (b pass : Bool) → (IsTrue b ↔ (IsOrderVerdict v × (unexplained ≡ []))) → (IsTrue pass ↔ PassesSsi h) → IsTrue pass → IsTrue b × IsOrderVerdict v
-      passed_is_serializable law b pass e p is =
-          let serial = law (p.0 is) in
-          let ordered = order_verdict serial.kept.0 serial.kept.1 serial.kept.2 in
-          (e.1 (ordered, none_unexplained serial.explained), ordered)
+      passed_is_serializable law b pass e p is = grind (arith, order_verdict, none_unexplained)
 
 -- a history kept isolation exactly where its judgement has no bad read and no bad write
 pub kept_where : (h : List Event) (j : Judgement) → IsJudgement h j → ((j.bad_reads.items ≡ []) × (j.bad_writes.items ≡ [])) ↔ IsolationKept h
@@ -121,6 +113,4 @@ kept_where h j is = (to, from)
 -- of a history that kept isolation what is dangerous is told as it is
 pub where_kept : {E : Type 0} (h : List Event) (r : Result (Option Dangerous) E) → IsolationKept h → IfOk r (λ found. MatchOption found (NoFirst h) (IsDangerous h))
     → IfOk r (λ found. MatchOption found (IsolationKept h → NoFirst h) (λ d. IsolationKept h × IsDangerous h d))
-where_kept h (Err e) kept is = tt
-where_kept h (Ok None) kept is = λ k. is
-where_kept h (Ok (Some d)) kept is = (kept, is)
+where_kept h r p q = grind arith

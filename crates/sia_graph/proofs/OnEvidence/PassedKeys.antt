@@ -12,10 +12,7 @@ use Rattle.sia_graph.specs.Passed.{IsHeldBy}
 -- what is found by a search in numbers that don't descend
 module _ (numbers : List ℕ) (rise : IsNonDecreasing numbers) (start at : ℕ) (point : IsPartitionPoint (λ n. ltb n start ≡ true) (λ n. ltb n start ≡ false) numbers at) where
   pub none_from : (end : ℕ) → ((k : ℕ) (d : ℕ) → at ≤ k → k < length numbers → end ≤ get_or numbers k d) → (n : ℕ) → start ≤ n → n < end → ¬ Contains numbers n
-  none_from end rest n from before c = elim (cases_lt c.0 at) [
-    | inl l ↦ let a = ltb-true (get_or numbers c.0 n) start (point.0 c.0 n (omega arith) l) in let e = c.2 in omega arith
-    | inr l ↦ let a = rest c.0 n l c.1 in let e = c.2 in omega arith
-  ]
+  none_from end rest n from before c = grind (arith, cases_lt, ltb-true)
 
   pub rest_from : (x : ℕ) → at < length numbers → x ≡ get_or numbers at x → (k : ℕ) (d : ℕ) → at ≤ k → k < length numbers → x ≤ get_or numbers k d
   rest_from x inside is k d l below = let a = rise at k d l below in let e = get_or_default numbers at d x inside in omega arith
@@ -58,11 +55,7 @@ pub record HasCutTo (keys : List ℕ) (start to : ℕ) (own₀ own : List ℕ) (
 
 module _ (keys : List ℕ) (start to : ℕ) (own₀ : List ℕ) (held₀ : List RangeMiss) where
   pub cut_none : HasCutTo keys start to own₀ own₀ held₀ held₀ start
-  cut_none = record {
-    started = omega arith;
-    own_are = adds_nothing (λ j. (start ≤ j) × (j < to) × (j < start) × Contains keys j) own₀ (λ j p. let a = p.0 in let b = p.2 in omega arith);
-    held_are = λ j. ((λ u. inl u), (λ e. elim e [ inl u ↦ u | inr p ↦ let a = p.0 in let b = p.2 in absurd (omega arith) ]));
-  }
+  cut_none = grind (arith, adds_nothing)
 
   pub cut_more : (own mid : List ℕ) (held : List RangeMiss) (from next : ℕ) → HasCutTo keys start to own₀ own held₀ held from → IsNextKey keys from to next
       → Adds (λ j. (j ≡ next) × (next < to)) own mid

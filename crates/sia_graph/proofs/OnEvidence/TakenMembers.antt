@@ -65,7 +65,6 @@ module _ (M : ℕ → Type 0) (E : Edge → Type 0) (size : ℕ) (txns : List �
           let at = range_is (2 * size + length txns) node.0 node.1 in
           let l = node.1 in
           let f = get_or_default (node_list size txns) node.0 0 a node.1 in
-          let g = node.2 in
           let m = many in
           let same : 2 * size + (a - 2 * size) ≡ a = omega arith in
           let inside : a - 2 * size < length txns = omega arith in

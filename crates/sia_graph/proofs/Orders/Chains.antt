@@ -1,5 +1,5 @@
 -- Lists whose elements are linked: each tells the next.
-use Rattle.std.proofs.Common.{◌≡◌, ◌≢◌, inl, inr, ℕ, zero, suc, ◌<◌, ◌≤◌, List, [], ◌∷◌, length, get_or, set, refl, ap, sym, subst, ◌∙◌, arith}
+use Rattle.std.proofs.Common.{◌≡◌, ◌≢◌, ℕ, zero, suc, ◌<◌, ◌≤◌, List, [], ◌∷◌, length, get_or, set, refl, ap, sym, subst, ◌∙◌, arith}
 use Rattle.std.specs.Prelude.{All, Contains}
 use Rattle.std.proofs.lemmas.Bool.{cases_eq}
 use Rattle.std.proofs.lemmas.List.{get_or-set_same, get_or-set_other, length-set}
@@ -40,35 +40,19 @@ pub chain_once : (next : List ℕ) (at x : ℕ) (xs : List ℕ) → IsChain next
 chain_once next at x xs c m =
     let w = chain_from next x (get_or next x 0) xs c.3 m in
     let e = equally_long next x w.0 (x ∷ xs) w.1 (subst (λ a. IsChain next a (x ∷ xs)) c.0 c) in
-    let l = w.2 in
     omega arith
 
 module _ (first next : List ℕ) (lists : List (List ℕ)) (are : AreChains first next lists) (at : ℕ) (below : at < length first) where
   -- one chain is put in the place of another
   pub one_put : (links : List ℕ) (n : ℕ) (xs : List ℕ) → IsChain links n xs → ((s : ℕ) → s ≢ at → s < length first → IsChain links (get_or first s 0) (get_or lists s []))
       → AreChains (set first at n) links (set lists at xs)
-  one_put links n xs chain others =
-      let a = length-set first at n in
-      let b = length-set lists at xs in
-      let e = are.0 in (
-        omega arith,
-        λ s l. elim (cases_eq s at) [
-          | inl same ↦
-              let f : get_or (set first at n) s 0 ≡ n = ap (λ k. get_or (set first at n) k 0) same ∙ get_or-set_same first at n 0 below in
-              let g : get_or (set lists at xs) s [] ≡ xs = ap (λ k. get_or (set lists at xs) k []) same ∙ get_or-set_same lists at xs [] (omega arith) in
-              subst (λ m. IsChain links m (get_or (set lists at xs) s [])) (sym f) (subst (λ l. IsChain links n l) (sym g) chain)
-          | inr other ↦
-              subst (λ m. IsChain links m (get_or (set lists at xs) s [])) (sym (get_or-set_other first at s n 0 other))
-              (subst (λ l. IsChain links (get_or first s 0) l) (sym (get_or-set_other lists at s xs [] other)) (others s other (omega arith)))
-        ],
-      )
+  one_put links n xs chain others = grind (arith, length-set, cases_eq, get_or-set_same, get_or-set_other)
 
   pub chain_longer : (node : ℕ) → node < length next → node < 4294967295 → All (λ list. ¬ Contains list node) lists
       → AreChains (set first at node) (set next node (get_or first at 0)) (set lists at (node ∷ get_or lists at []))
   chain_longer node inside few out =
       let links = set next node (get_or first at 0) in
       let long = length-set next node (get_or first at 0) in
-      let e = are.0 in
       let not_in : (s : ℕ) → s < length first → ¬ Contains (get_or lists s []) node = λ s l. out s [] (omega arith) in
       let kept : (s : ℕ) → s < length first → IsChain links (get_or first s 0) (get_or lists s []) = λ s l. chain_kept next node (get_or first at 0) (get_or first s 0) (get_or lists s []) (not_in s l) (are.1 s l) in
       one_put links node (node ∷ get_or lists at [])

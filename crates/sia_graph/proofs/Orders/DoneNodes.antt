@@ -22,10 +22,7 @@ module _ (n : ℕ) (g : Graph) (graph : IsGraph n g) (done : List Bool) (k : Tak
   t_in_done = let e = is.under_way.done_long in omega arith
 
   was_done : (s : ℕ) → IsDone done s → IsDone more s
-  was_done s d = elim (cases_eq s t) [
-    | inl e ↦ ap (λ x. get_or more x false) e ∙ get_or-set_same done t true false t_in_done
-    | inr other ↦ get_or-set_other done t s true false other ∙ d
-  ]
+  was_done s d = grind (arith, cases_eq, get_or-set_same, t_in_done, get_or-set_other)
 
   done_before : (s : ℕ) → s ≢ t → IsDone more s → IsDone done s
   done_before s other d = sym (get_or-set_other done t s true false other) ∙ d
@@ -64,13 +61,4 @@ module _ (n : ℕ) (g : Graph) (graph : IsGraph n g) (done : List Bool) (k : Tak
 
   pub done_ready : (After : ℕ → Type 0) (end : ℕ) → ((u : ℕ) → IsReadyAt After end k.counts.items u ↔ (IsReadyIn k u × (t ≢ u)))
       → (u : ℕ) → u < length k.counts.items → IsReadyAt After end k.counts.items u ↔ ((get_or k.counts.items u 0 ≡ 0) × ¬ IsDone more u)
-  done_ready After end taken u l = (
-    λ r.
-        let w = (taken u).0 r in
-        let x = (is.ready u l).0 w.0 in
-        (x.0, λ d. x.1 (done_before u (λ e. w.1 (sym e)) d)),
-    λ w. (taken u).1 (
-      (is.ready u l).1 (w.0, λ d. w.1 (was_done u d)),
-      (λ e. w.1 (ap (λ x. get_or more x false) (sym e) ∙ get_or-set_same done t true false t_in_done)),
-    ),
-  )
+  done_ready After end p u q = grind (arith, done_before, was_done, get_or-set_same, t_in_done)

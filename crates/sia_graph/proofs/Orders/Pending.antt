@@ -1,5 +1,5 @@
 -- What is still to be taken from the counts of nodes, in other words.
-use Rattle.std.proofs.Common.{◌≡◌, ◌≢◌, ◌⊎◌, inl, inr, ℕ, suc, ◌+◌, ◌<◌, ◌≤◌, Bool, cond, List, length, get_or, drop, eqb, nat_lt, refl, ap, sym, ◌∙◌, arith}
+use Rattle.std.proofs.Common.{◌≡◌, ℕ, suc, ◌+◌, ◌<◌, Bool, cond, List, length, get_or, drop, eqb, nat_lt, refl, ap, sym, ◌∙◌, arith}
 use Rattle.std.proofs.lemmas.Bool.{cases_lt, eq-eqb, le-ltb, lt-ltb, ne_eqb}
 use Rattle.std.proofs.lemmas.List.{drop_more}
 use Rattle.sia_graph.specs.UnderWay.{IsOneFewer, IsTaking, times}
@@ -10,22 +10,14 @@ use Rattle.sia_graph.proofs.Orders.UnderWay.{as_pending}
 
 pub as_taking : (g : Graph) (done : List Bool) (k : Taking) (pending same : ℕ → ℕ) (waking : ℕ) → ((t : ℕ) → t < length k.counts.items → pending t ≡ same t)
     → IsTaking g done k pending waking → IsTaking g done k same waking
-as_taking g done k pending same waking equal is = record {
-  under_way = as_pending g done k.counts.items k.passed.items k.first_waiting.items k.next_waiting.items pending waking is.under_way same equal;
-  ready = is.ready;
-  before = is.before;
-  within = is.within;
-}
+as_taking g done k pending same waking equal is = grind (arith, as_pending)
 
 -- one more at a node
 abbrev pub one_more : ℕ → (ℕ → ℕ) → ℕ → ℕ
 one_more node pending t = cond (eqb t node) 1 0 + pending t
 
 pub one_more_is : (node : ℕ) (pending : ℕ → ℕ) → IsOneFewer node (one_more node pending) pending
-one_more_is node pending = (
-  ap (λ b. cond b 1 0 + pending node) (eq-eqb node node refl) ∙ (let a : 1 + pending node ≡ suc (pending node) = omega arith in a),
-  λ t n. ap (λ b. cond b 1 0 + pending t) (ne_eqb t node n) ∙ (let a : 0 + pending t ≡ pending t = omega arith in a),
-)
+one_more_is node pending = grind (arith, eq-eqb, ne_eqb)
 
 -- the first of what is left of a row
 pub row_fewer : (row : List ℕ) (i d : ℕ) → i < length row → IsOneFewer (get_or row i d) (λ t. times t (drop i row)) (λ t. times t (drop (i + 1) row))
@@ -42,11 +34,4 @@ abbrev pub not_yet : ℕ → ℕ → ℕ
 not_yet i t = cond (nat_lt t i) 0 1
 
 pub first_fewer : (i : ℕ) → IsOneFewer i (not_yet i) (not_yet (i + 1))
-first_fewer i = (
-  ap (λ b. cond b 0 1) (le-ltb i i (omega arith)) ∙ ap (λ b. suc (cond b 0 1)) (sym (lt-ltb i (i + 1) (omega arith))),
-  λ t n. ap (λ b. cond b 0 1) (same_test t n (cases_lt t i)),
-)
-  where
-    same_test : (t : ℕ) → t ≢ i → (t < i) ⊎ (i ≤ t) → nat_lt t i ≡ nat_lt t (i + 1)
-    same_test t n (inl less) = lt-ltb t i less ∙ sym (lt-ltb t (i + 1) (omega arith))
-    same_test t n (inr more) = le-ltb t i more ∙ sym (le-ltb t (i + 1) (omega arith))
+first_fewer i = grind (arith, le-ltb, lt-ltb, cases_lt, nat_lt)

@@ -94,18 +94,7 @@ least_of_others top (x ∷ others) bound i some = elim (cases_Bool (eqb x.0 i)) 
 
 -- a run goes on ascending with what is above its last
 pub ascends_more : (run : List ℕ) (place d : ℕ) → IsStrictlyIncreasing run → get_or run (length run - 1) d < place → IsStrictlyIncreasing (run ++ place ∷ [])
-ascends_more run place d up above k l =
-    let long = length-append run (place ∷ []) in
-    let a = get_or_append_left run (place ∷ []) 0 k (omega arith) in
-    elim (cases_lt (k + 1) (length run)) [
-      | inl inside ↦ let b = get_or_append_left run (place ∷ []) 0 (k + 1) inside in let u = up k inside in omega arith
-      | inr past ↦
-          let at : k + 1 ≡ length run = omega arith in
-          let b : get_or (run ++ place ∷ []) (k + 1) 0 ≡ place = ap (λ n. get_or (run ++ place ∷ []) n 0) at ∙ get_or-append_seam run place [] 0 in
-          let last : length run - 1 ≡ k = omega arith in
-          let c : get_or run (length run - 1) d ≡ get_or run k 0 = ap (λ n. get_or run n d) last ∙ get_or_default run k d 0 (omega arith) in
-          omega arith
-    ]
+ascends_more run place d up above k l = grind (arith, length-append, get_or_append_left, cases_lt, get_or-append_seam, get_or_default)
 
 -- the element that was read, or the default
 pub read_at : {X : Type 0} (d v : X) (xs : List X) (i : ℕ) (r : Option (Bor X)) (o : Option X) → v ≡ unwrap_or o d → o ≡ option_copied r → IsGetResult xs 0 i r → v ≡ get_or xs i d
@@ -179,6 +168,5 @@ pub empty_run : (run : List ℕ) (others : List (Reverse ℕ)) (end : ℕ) → A
 empty_run [] others end is few past = refl
 empty_run (x ∷ run) others end is few past =
     let a = at_place (held run others) (held (x ∷ run) others) x (run_less x run others) in
-    let b = is.once x in
     let c = is.before x (omega arith) in
     absurd (omega arith)

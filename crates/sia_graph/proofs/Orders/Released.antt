@@ -1,5 +1,5 @@
 -- What is at hand of nodes that are taken, once less holds one of them back.
-use Rattle.std.proofs.Common.{◌≡◌, ◌≢◌, ◌⊎◌, ◌-◌, ◌<◌, ◌≤◌, ℕ, [], ◌∷◌, Bool, List, Some, length, get_or, set, slice_get, inr, ap, refl, sym, subst, ◌∙◌, arith}
+use Rattle.std.proofs.Common.{◌≡◌, ◌≢◌, ◌⊎◌, ◌-◌, ◌<◌, ◌≤◌, ℕ, [], ◌∷◌, Bool, List, Some, length, get_or, set, slice_get, inr, sym, subst, arith, rules}
 use Rattle.std.specs.Prelude.{◌↔◌, All, Contains}
 use Rattle.std.proofs.lemmas.List.{get_or-set_same, get_or-set_other, get_or_default, length-set}
 use Rattle.std.proofs.lemmas.Option.{slice_get-get_or}
@@ -36,11 +36,7 @@ module _ (g : Graph) (done : List Bool) (k : Taking) (node : ℕ) (below : node 
 
   module _ (some : 1 < v) where
     pub under_way_held : IsUnderWay g done lower k.passed.items k.first_waiting.items k.next_waiting.items less waking
-    under_way_held =
-        let a = at_node in
-        let m = many in
-        still_held g done counts k.passed.items k.first_waiting.items k.next_waiting.items pending waking is.under_way node below
-        lower k.passed.items (length-set counts node v) is.under_way.passed_long elsewhere (λ t n. refl) less fewer m (omega arith) (omega arith) refl
+    under_way_held = grind (arith, at_node, many, still_held, length-set, elsewhere)
 
   module _ (one : v ≤ 1) where
     two : get_or counts node 0 ≡ 2
@@ -50,9 +46,7 @@ module _ (g : Graph) (done : List Bool) (k : Taking) (node : ℕ) (below : node 
     module _ (place : ℕ) (inside : place < length (get_or g.sources node [])) (from : get_or k.passed.items node 0 ≤ place) (at : ℕ) (is_at : at ≡ get_or (get_or g.sources node []) place 0)
         (at_left : ¬ IsDone done at) (all : (i : ℕ) → get_or k.passed.items node 0 ≤ i → i < place → IsDone done (get_or (get_or g.sources node []) i 0)) (at_below : at < length counts) where
       stopped : slice_get (get_or g.sources node []) (get_or (set k.passed.items node place) node 0) ≡ Some at
-      stopped =
-          let l = is.under_way.passed_long in
-          ap (slice_get (get_or g.sources node [])) (get_or-set_same k.passed.items node place 0 (omega arith)) ∙ slice_get-get_or (get_or g.sources node []) place 0 inside ∙ ap Some (sym is_at)
+      stopped = grind (arith, get_or-set_same, slice_get-get_or)
 
       pub under_way_waiting : (few : node < 4294967295) (link : ℕ) → link ≡ get_or k.first_waiting.items at 0
           → IsUnderWay g done lower (set k.passed.items node place) (set k.first_waiting.items at node) (set k.next_waiting.items node link) less waking
@@ -61,8 +55,6 @@ module _ (g : Graph) (done : List Bool) (k : Taking) (node : ℕ) (below : node 
           let m = many in
           let a = at_node in
           let t = two in
-          let l = w.passed_long in
-          let f = w.first_long in
           let n = w.next_long in
           let p = get_or-set_same k.passed.items node place 0 (omega arith) in
           let ps_long = length-set k.passed.items node place in
@@ -79,33 +71,17 @@ module _ (g : Graph) (done : List Bool) (k : Taking) (node : ℕ) (below : node 
 
     pub under_way_free : ((i : ℕ) → get_or k.passed.items node 0 ≤ i → i < length (get_or g.sources node []) → IsDone done (get_or (get_or g.sources node []) i 0))
         → IsUnderWay g done (set lower node 0) k.passed.items k.first_waiting.items k.next_waiting.items less waking
-    under_way_free all =
-        let l = length-set counts node v in
-        let m = length-set lower node 0 in
-        now_free g done counts k.passed.items k.first_waiting.items k.next_waiting.items pending waking is.under_way node below
-        (set lower node 0) k.passed.items (m ∙ l) is.under_way.passed_long (λ t n. get_or-set_other lower node t 0 0 n ∙ elsewhere t n) (λ t n. refl) less fewer many two
-        (get_or-set_same lower node 0 0 (omega arith)) refl all
+    under_way_free all = grind (arith, length-set, now_free, get_or-set_other, elsewhere, many, two, get_or-set_same)
 
     pub ready_free : (After : ℕ → Type 0) → ((t : ℕ) → After t ↔ (IsBehind k t ⊎ ((node ≡ t) × (node < k.end))))
         → (t : ℕ) → t < length (set lower node 0) → IsReadyAt After k.end (set lower node 0) t ↔ ((get_or (set lower node 0) t 0 ≡ 0) × ¬ IsDone done t)
-    ready_free After noted =
-        let l = length-set counts node v in
-        let m = length-set lower node 0 in
-        one_freed (IsDone done) (IsBehind k) k.end counts (set lower node 0) (m ∙ l) node (λ t n. get_or-set_other lower node t 0 0 n ∙ elsewhere t n) (let m = many in omega arith) is.ready
-        After noted (λ d. (let z = is.under_way.taken node below d in let m = many in omega arith)) below (get_or-set_same lower node 0 0 (omega arith))
+    ready_free After p = grind (arith, length-set, one_freed, get_or-set_other, elsewhere, many, get_or-set_same)
 
   pub ready_held : (t : ℕ) → t < length lower → IsReadyAt (IsBehind k) k.end lower t ↔ ((get_or lower t 0 ≡ 0) × ¬ IsDone done t)
-  ready_held =
-      let a = at_node in
-      let m = many in
-      none_freed (IsDone done) (IsBehind k) k.end counts lower (length-set counts node v) node elsewhere (omega arith) is.ready below (omega arith)
+  ready_held = search (rules, arith, at_node, many, none_freed, length-set, elsewhere)
 
 -- where others wait, they waited
 module _ (g : Graph) (counts passed cs ps : List ℕ) (node : ℕ) (long : length cs ≡ length counts) (cs_other : (t : ℕ) → t ≢ node → get_or cs t 0 ≡ get_or counts t 0)
     (ps_other : (t : ℕ) → t ≢ node → get_or ps t 0 ≡ get_or passed t 0) where
   pub others_waited : (t s : ℕ) → t ≢ node → WaitsAt g.sources cs ps t s → WaitsAt g.sources counts passed t s
-  others_waited t s other w =
-      let e = cs_other t other in
-      let l = w.0 in
-      let c = w.1 in
-      (omega arith, omega arith, subst (λ k. slice_get (get_or g.sources t []) k ≡ Some s) (ps_other t other) w.2)
+  others_waited t s other w = grind arith

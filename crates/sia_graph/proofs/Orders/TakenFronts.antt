@@ -23,12 +23,7 @@ pub in_range : (n t : ℕ) → t < n → Contains (range_with_len 0 n) t
 in_range n t l = (t, (let e = length-range_with_len 0 n in omega arith), (let e = get_or-range_with_len 0 n t t l in e ∙ (let z : 0 + t ≡ t = omega arith in z)))
 
 pub range_in : (n t : ℕ) → Contains (range_with_len 0 n) t → t < n
-range_in n t c =
-    let e = length-range_with_len 0 n in
-    let l = c.1 in
-    let f = get_or-range_with_len 0 n c.0 t (omega arith) in
-    let g = c.2 in
-    omega arith
+range_in n t c = grind (arith, length-range_with_len, get_or-range_with_len)
 
 pub edge_leads : (g : Graph) (s t : ℕ) → Leads (IsGraphEdge g) s t → LeadsTo g s t
 edge_leads g s t e = subst (λ u. LeadsTo g u t) e.2 (subst (λ u. LeadsTo g e.0.src u) e.3 e.1.0)
@@ -47,8 +42,6 @@ module _ (n : ℕ) (g : Graph) (graph : IsGraph n g) (done : List Bool) (k : Tak
   pub all_done : (t : ℕ) → t < n → get_or k.counts.items t 0 ≡ 0 → (s : ℕ) → LeadsTo g s t → IsDone done s
   all_done t l none s leads =
       let f = is.under_way.free t (omega arith) none in
-      let z = f.0 in
-      let e = graph.targets_long in
       let b = (graph.within s t leads).0 in
       elim leads [ inl at_target ↦ none_told g.targets done t s (omega arith) (omega arith) at_target | inr at_source ↦ f.1 s at_source ]
 
@@ -58,7 +51,6 @@ module _ (n : ℕ) (g : Graph) (graph : IsGraph n g) (done : List Bool) (k : Tak
         let w = some_told g.targets done t more in
         (w.0, (graph.within w.0 t (inl w.3)).0, w.2, inl w.3)
     | inr none ↦
-        let h = is.under_way.held t (omega arith) some in
         let w = is.under_way.stops t (omega arith) (omega arith) in
         let led = waits_led g k.counts.items k.passed.items t w.0 w.1 in
         let b = (graph.within w.0 t led).0 in
@@ -131,20 +123,8 @@ abbrev pub many_left : List Bool → ℕ
 many_left done = sum_by (λ d. cond d 0 1) done
 
 pub fewer_left : (done : List Bool) (t : ℕ) → t < length done → ¬ IsDone done t → many_left (set done t true) < many_left done
-fewer_left done t l out =
-    let weight : Bool → ℕ = λ d. cond d 0 1 in
-    let sum : many_left (set done t true) + weight (get_or done t false) ≡ many_left done + 0 = sum_by-set weight done t true false l in
-    let one : weight (get_or done t false) ≡ 1 = one_out (get_or done t false) out in
-    omega arith
-  where
-    one_out : (d : Bool) → ¬ (d ≡ true) → ◌≡◌ {A = ℕ} (cond d 0 1) 1
-    one_out true out = absurd (out refl)
-    one_out false out = refl
+fewer_left done t l out = grind (arith, sum_by-set)
 
 -- nothing is done
 pub no_front : (n : ℕ) (g : Graph) (done : List Bool) → length done ≡ n → ((s : ℕ) → get_or done s false ≡ false) → IsFrontOf n g done []
-no_front n g done long none = record {
-  is_front = front_none (Contains (range_with_len 0 n)) (IsGraphEdge g);
-  done_long = long;
-  is_done = λ t l. ((λ d. absurd (let e = sym d ∙ none t in cc)), (λ s. let e = s.1 in cc));
-}
+no_front n g done long none = grind (arith, front_none)

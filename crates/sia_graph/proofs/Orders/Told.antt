@@ -13,7 +13,6 @@ some_times t (x ∷ xs) l = elim (cases_Bool (eqb x t)) [
   | inr other ↦
       let e : times t (x ∷ xs) ≡ times t xs = count_later (λ y. eqb y t) x xs other in
       let c = some_times t xs (omega arith) in
-      let b = c.1 in
       (suc c.0, omega arith, c.2)
 ]
 

@@ -1,6 +1,6 @@
 -- One thing after another happens to nodes that are taken: less holds one back, so that it waits or is free; one is done, and those
 -- that wait at it are woken.
-use Rattle.std.proofs.Common.{◌≡◌, ◌≢◌, ◌⊎◌, inl, inr, ℕ, zero, suc, ◌+◌, ◌<◌, ◌≤◌, Bool, List, [], ◌∷◌, length, get_or, set, slice_get, Some, refl, ap, sym, subst, ◌∙◌, arith}
+use Rattle.std.proofs.Common.{◌≡◌, ◌≢◌, ◌⊎◌, inl, inr, ℕ, suc, ◌+◌, ◌<◌, ◌≤◌, Bool, List, [], ◌∷◌, length, get_or, set, slice_get, Some, refl, ap, sym, subst, ◌∙◌, arith}
 use Rattle.std.specs.Prelude.{◌↔◌, All, Contains}
 use Rattle.std.proofs.lemmas.Bool.{cases_eq, cases_lt}
 use Rattle.std.proofs.lemmas.List.{get_or-set_same, get_or-set_other, get_or_default}
@@ -11,11 +11,7 @@ use Rattle.sia_graph.specs.declared.order.Graph.{Graph}
 
 -- what stands in a row that has one more at its head
 pub head_or : (x y : ℕ) (xs : List ℕ) → Contains (x ∷ xs) y → (x ≡ y) ⊎ Contains xs y
-head_or x y xs c = by_place c.0 c.1 c.2
-  where
-    by_place : (k : ℕ) → k < length (x ∷ xs) → get_or (x ∷ xs) k y ≡ y → (x ≡ y) ⊎ Contains xs y
-    by_place zero l e = inl e
-    by_place (suc k) l e = inr (k, omega arith, e)
+head_or x y xs c = grind arith
 
 pub at_head : (x : ℕ) (xs : List ℕ) → Contains (x ∷ xs) x
 at_head x xs = (0, omega arith, refl)
@@ -37,28 +33,11 @@ module _ (g : Graph) (done : List Bool) (counts passed first next : List ℕ) (p
 
   -- what is pending, in other words
   pub as_pending : (same : ℕ → ℕ) → ((t : ℕ) → t < length counts → pending t ≡ same t) → IsUnderWay g done counts passed first next same waking
-  as_pending same equal = record {
-    passed_long = is.passed_long;
-    first_long = is.first_long;
-    next_long = is.next_long;
-    done_long = is.done_long;
-    lists = is.lists;
-    chains = is.chains;
-    waits = is.waits;
-    held = λ t l some. let e = equal t l in let h = is.held t l some in omega arith;
-    free = λ t l none. let e = equal t l in let f = is.free t l none in let z = f.0 in (omega arith, f.1);
-    passed_done = is.passed_done;
-    stops = is.stops;
-    left = is.left;
-    taken = is.taken;
-  }
+  as_pending same equal = grind arith
 
   -- what is pending at a node holds it back
   pub pending_many : (node : ℕ) → node < length counts → 0 < pending node → 1 < get_or counts node 0
-  pending_many node l some = elim (cases_lt 0 (get_or counts node 0)) [
-    | inl more ↦ let h = is.held node l more in omega arith
-    | inr none ↦ let f = is.free node l (omega arith) in let z = f.0 in absurd (omega arith)
-  ]
+  pending_many node l some = grind (arith, cases_lt)
 
   -- the count of a node changes, and where it stopped, and so do the links
   module _ (node : ℕ) (below : node < length counts) (cs ps : List ℕ) (cs_long : length cs ≡ length counts) (ps_long : length ps ≡ length counts)
@@ -67,18 +46,10 @@ module _ (g : Graph) (done : List Bool) (counts passed first next : List ℕ) (p
     now_waits = WaitsAt g.sources cs ps
 
     pub now_was : (t s : ℕ) → t ≢ node → now_waits t s → waits_at t s
-    now_was t s other w =
-        let e = cs_other t other in
-        let l = w.0 in
-        let c = w.1 in
-        (omega arith, omega arith, subst (λ k. slice_get (get_or g.sources t []) k ≡ Some s) (ps_other t other) w.2)
+    now_was t s other w = grind arith
 
     pub was_now : (t s : ℕ) → t ≢ node → waits_at t s → now_waits t s
-    was_now t s other w =
-        let e = cs_other t other in
-        let l = w.0 in
-        let c = w.1 in
-        (omega arith, omega arith, subst (λ k. slice_get (get_or g.sources t []) k ≡ Some s) (sym (ps_other t other)) w.2)
+    was_now t s other w = grind arith
 
     module _ (less : ℕ → ℕ) (less_other : (t : ℕ) → t ≢ node → pending t ≡ less t) (fs ns : List ℕ) (fs_long : length fs ≡ length counts) (ns_long : length ns ≡ length counts)
         (lists : List (List ℕ)) (chains : AreChains fs ns lists) (waits : (t s : ℕ) → s < length counts → Contains (get_or lists s []) t ↔ now_waits t s)
@@ -100,7 +71,6 @@ module _ (g : Graph) (done : List Bool) (counts passed first next : List ℕ) (p
           | inl e ↦ subst (λ u. get_or cs u 0 ≡ told g.targets done u + less u + 1) (sym e) (held (subst (λ u. 0 < get_or cs u 0) e some))
           | inr n ↦
               let a = cs_other t n in
-              let h = is.held t (omega arith) (omega arith) in
               let b = less_other t n in
               omega arith
         ];
@@ -148,7 +118,6 @@ module _ (g : Graph) (done : List Bool) (counts passed first next : List ℕ) (p
       pub still_held : get_or cs node 0 + 1 ≡ get_or counts node 0 → 1 < get_or cs node 0 → get_or ps node 0 ≡ get_or passed node 0
           → IsUnderWay g done cs ps first next less waking
       still_held one some same =
-          let h = was_held in
           let none : (s : ℕ) → ¬ now_waits node s = λ s w. (let e = w.1 in omega arith) in
           changed less fewer.1 first next is.first_long is.next_long is.lists is.chains (same_waits none)
           (λ p. omega arith) (λ z. absurd (omega arith)) (λ i s b at. is.passed_done node i s below (omega arith) at)
@@ -159,7 +128,6 @@ module _ (g : Graph) (done : List Bool) (counts passed first next : List ℕ) (p
           → ((i : ℕ) → get_or passed node 0 ≤ i → i < length (get_or g.sources node []) → IsDone done (get_or (get_or g.sources node []) i 0))
           → IsUnderWay g done cs ps first next less waking
       now_free two zero_ same all =
-          let h = was_held in
           let none : (s : ℕ) → ¬ now_waits node s = λ s w. (let e = w.1 in omega arith) in
           let row = get_or g.sources node [] in
           changed less fewer.1 first next is.first_long is.next_long is.lists is.chains (same_waits none)
@@ -180,15 +148,12 @@ module _ (g : Graph) (done : List Bool) (counts passed first next : List ℕ) (p
           (all : (i : ℕ) → get_or passed node 0 ≤ i → i < get_or ps node 0 → IsDone done (get_or (get_or g.sources node []) i 0)) where
         pub none_listed : All (λ list. ¬ Contains list node) is.lists
         none_listed k d l c =
-            let e = is.chains.0 in
-            let f = is.first_long in
             let b : k < length counts = omega arith in
             not_waiting k ((is.waits node k b).0 (subst (λ xs. Contains xs node) (get_or_default is.lists k d [] l) c))
 
         listed : (t s : ℕ) → s < length counts → Contains (get_or (set is.lists at (node ∷ get_or is.lists at [])) s []) t ↔ now_waits t s
         listed t s l =
             let e = is.chains.0 in
-            let f = is.first_long in
             elim (cases_eq s at) [
               | inl same ↦
                   let row : get_or (set is.lists at (node ∷ get_or is.lists at [])) s [] ≡ node ∷ get_or is.lists s [] =
@@ -220,7 +185,6 @@ module _ (g : Graph) (done : List Bool) (counts passed first next : List ℕ) (p
 
         pub now_waiting : (fs ns : List ℕ) → length fs ≡ length first → length ns ≡ length next → AreChains fs ns (set is.lists at (node ∷ get_or is.lists at [])) → IsUnderWay g done cs ps fs ns less waking
         now_waiting fs ns f_long n_long chains =
-            let h = was_held in
             changed less fewer.1 fs ns (f_long ∙ is.first_long) (n_long ∙ is.next_long) (set is.lists at (node ∷ get_or is.lists at [])) chains listed
             (λ p. omega arith) (λ z. absurd (omega arith))
             (λ i s b is_at. elim (cases_lt i (get_or passed node 0)) [

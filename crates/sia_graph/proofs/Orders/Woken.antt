@@ -1,12 +1,12 @@
 -- The first of those that wait at a node is woken.
-use Rattle.std.proofs.Common.{◌≡◌, ◌≢◌, ◌+◌, ◌<◌, ℕ, suc, [], ◌∷◌, Bool, true, List, Some, length, get_or, set, slice_get, inl, inr, eqb, ap, refl, sym, subst, ◌∙◌, arith}
+use Rattle.std.proofs.Common.{◌≡◌, ◌≢◌, ◌+◌, ◌<◌, ℕ, suc, [], ◌∷◌, Bool, true, List, Some, length, get_or, set, slice_get, inl, inr, eqb, ap, refl, sym, subst, ◌∙◌, arith, rules}
 use Rattle.std.specs.Prelude.{◌↔◌, ◌&&◌, Contains}
 use Rattle.std.specs.List.{count_by, range_with_len}
 use Rattle.std.proofs.lemmas.Bool.{and_from, and_parts, cases_Bool, cases_eq, cases_lt, eq-eqb, eqb-true}
 use Rattle.std.proofs.lemmas.List.{get_or-set_same, get_or-set_other, get_or_past, length-set}
 use Rattle.std.proofs.lemmas.List.FromFn.{get_or-range_with_len, length-range_with_len}
 use Rattle.std.proofs.lemmas.Option.{get_or_from_slice_get, same_Some, slice_get-get_or}
-use Rattle.sia_graph.specs.UnderWay.{AreChains, IsBehind, IsChain, IsDone, IsOneFewer, IsReadyAt, IsTaking, IsUnderWay, WaitsAt}
+use Rattle.sia_graph.specs.UnderWay.{AreChains, IsBehind, IsDone, IsOneFewer, IsReadyAt, IsTaking, IsUnderWay, WaitsAt}
 use Rattle.sia_graph.specs.declared.order.Graph.{Graph}
 use Rattle.sia_graph.specs.declared.order.Taking.{Taking}
 use Rattle.sia_graph.proofs.Orders.Chains.{chain_ended, chain_goes_on, chain_once}
@@ -20,24 +20,10 @@ waits_test sources counts passed s t = eqb (get_or counts t 0) 1 && eqb (get_or 
 
 module _ (sources : List (List ℕ)) (counts passed : List ℕ) (s t : ℕ) where
   pub test_waits : waits_test sources counts passed s t ≡ true → WaitsAt sources counts passed t s
-  test_waits e =
-      let w = and_parts (eqb (get_or counts t 0) 1) (eqb (get_or (get_or sources t []) (get_or passed t 0) (suc s)) s) e in
-      let one = eqb-true (get_or counts t 0) 1 w.0 in
-      let row = get_or sources t [] in
-      let at = eqb-true (get_or row (get_or passed t 0) (suc s)) s w.1 in (
-        elim (cases_lt t (length counts)) [ inl l ↦ l | inr m ↦ let z = get_or_past counts t 0 m in absurd (omega arith) ],
-        one,
-        elim (cases_lt (get_or passed t 0) (length row)) [
-          | inl l ↦ slice_get-get_or row (get_or passed t 0) (suc s) l ∙ ap Some at
-          | inr m ↦ let z = get_or_past row (get_or passed t 0) (suc s) m in absurd (omega arith)
-        ],
-      )
+  test_waits e = grind (arith, and_parts, eqb, eqb-true, cases_lt, get_or_past, slice_get-get_or)
 
   pub waits_tested : WaitsAt sources counts passed t s → waits_test sources counts passed s t ≡ true
-  waits_tested w =
-      let row = get_or sources t [] in
-      and_from (eqb (get_or counts t 0) 1) (eqb (get_or row (get_or passed t 0) (suc s)) s)
-      (eq-eqb (get_or counts t 0) 1 w.1) (eq-eqb (get_or row (get_or passed t 0) (suc s)) s (get_or_from_slice_get row (get_or passed t 0) s (suc s) w.2))
+  waits_tested w = grind (arith, and_from, eqb, eq-eqb, get_or_from_slice_get)
 
 -- one node fewer waits at s
 pub fewer_wait : (sources : List (List ℕ)) (counts passed cs ps : List ℕ) (s node n : ℕ) → node < n → WaitsAt sources counts passed node s
@@ -118,34 +104,22 @@ module _ (g : Graph) (done : List Bool) (k : Taking) (pending : ℕ → ℕ) (at
       not_now s w = let e = w.1 in let t = two in omega arith
 
       to_old : (t s : ℕ) → t ≢ node → WaitsAt g.sources cs k.passed.items t s → WaitsAt g.sources k.counts.items k.passed.items t s
-      to_old =
-          now_was g done k.counts.items k.passed.items k.first_waiting.items k.next_waiting.items pending at is.under_way node node_within cs k.passed.items
-          (length-set k.counts.items node v) is.under_way.passed_long elsewhere (λ t n. refl)
+      to_old = grind (arith, now_was, node_within, length-set, elsewhere)
 
       to_new : (t s : ℕ) → t ≢ node → WaitsAt g.sources k.counts.items k.passed.items t s → WaitsAt g.sources cs k.passed.items t s
-      to_new =
-          was_now g done k.counts.items k.passed.items k.first_waiting.items k.next_waiting.items pending at is.under_way node node_within cs k.passed.items
-          (length-set k.counts.items node v) is.under_way.passed_long elsewhere (λ t n. refl)
+      to_new = grind (arith, was_now, node_within, length-set, elsewhere)
 
       pub waited_before : (t s : ℕ) → WaitsAt g.sources cs k.passed.items t s → WaitsAt g.sources k.counts.items k.passed.items t s × (t ≢ node)
-      waited_before t s w = elim (cases_eq t node) [
-        | inl e ↦ absurd (not_now s (subst (λ u. WaitsAt g.sources cs k.passed.items u s) e w))
-        | inr n ↦ (to_old t s n w, n)
-      ]
+      waited_before t s w = search (rules, arith, cases_eq, not_now, to_old)
 
       abbrev rest : List ℕ
       rest = goes_on.1
 
       row : (s : ℕ) → s ≡ at → get_or (set is.under_way.lists at rest) s [] ≡ rest
-      row s e =
-          let a = is.under_way.chains.0 in
-          let l = at_first in
-          ap (λ x. get_or (set is.under_way.lists at rest) x []) e ∙ get_or-set_same is.under_way.lists at rest [] (omega arith)
+      row s e = grind (arith, at_first, get_or-set_same)
 
       not_in_rest : ¬ Contains rest node
-      not_in_rest =
-          chain_once k.next_waiting.items (get_or k.first_waiting.items at 0) node rest
-          (subst (λ xs. IsChain k.next_waiting.items (get_or k.first_waiting.items at 0) xs) goes_on.2 (is.under_way.chains.1 at at_first))
+      not_in_rest = grind (arith, chain_once, goes_on, at_first)
 
       listed : (t s : ℕ) → s < length k.counts.items → Contains (get_or (set is.under_way.lists at rest) s []) t ↔ WaitsAt g.sources cs k.passed.items t s
       listed t s l = elim (cases_eq s at) [
@@ -174,7 +148,6 @@ module _ (g : Graph) (done : List Bool) (k : Taking) (pending : ℕ → ℕ) (at
             let h = is.under_way.held node node_within (let w = node_waits.1 in omega arith) in
             let one = node_waits.1 in
             let t = two in
-            let m = one_more.0 in
             changed g done k.counts.items k.passed.items k.first_waiting.items k.next_waiting.items pending at is.under_way node node_within cs k.passed.items
             (length-set k.counts.items node v) is.under_way.passed_long elsewhere (λ t n. refl) more (λ t n. sym (one_more.1 t n))
             (set k.first_waiting.items at link) k.next_waiting.items (length-set k.first_waiting.items at link ∙ is.under_way.first_long) is.under_way.next_long
@@ -183,7 +156,4 @@ module _ (g : Graph) (done : List Bool) (k : Taking) (pending : ℕ → ℕ) (at
             (λ z. absurd (omega arith)) (λ s w d. absurd (not_now s w)) (λ d. absurd (let z = is.under_way.taken node node_within d in omega arith))
 
         pub ready_woken : (t : ℕ) → t < length cs → IsReadyAt (IsBehind k) k.end cs t ↔ ((get_or cs t 0 ≡ 0) × ¬ IsDone done t)
-        ready_woken =
-            let one = node_waits.1 in
-            let t = two in
-            none_freed (IsDone done) (IsBehind k) k.end k.counts.items cs (length-set k.counts.items node v) node elsewhere (omega arith) is.ready node_within (omega arith)
+        ready_woken = search (rules, arith, node_waits, two, none_freed, length-set, elsewhere, node_within)

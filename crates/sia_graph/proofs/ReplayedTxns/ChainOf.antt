@@ -1,5 +1,5 @@
 -- The chain of a transaction's events, and what a replay along it tells.
-use Rattle.std.proofs.Common.{◌≡◌, ◌≢◌, ◌⊎◌, inl, inr, ℕ, zero, suc, ◌+◌, ◌-◌, ◌<◌, ◌≤◌, true, false, cond, List, [], ◌∷◌, ◌++◌, length, get_or, drop, slice_get, Option, Some, None, eqb, ap, sym, ◌∙◌, refl, subst, arith, add-one}
+use Rattle.std.proofs.Common.{◌≡◌, ◌≢◌, ◌⊎◌, inl, inr, ℕ, zero, suc, ◌+◌, ◌-◌, ◌<◌, ◌≤◌, true, false, cond, List, [], ◌∷◌, ◌++◌, length, get_or, drop, slice_get, Option, Some, eqb, ap, sym, ◌∙◌, refl, subst, arith, add-one}
 use Rattle.std.specs.BTreeMap.{BTreeMap}
 use Rattle.std.proofs.lemmas.Bool.{cases_Bool, cases_lt, eqb-true, eq-eqb, ne_eqb}
 use Rattle.std.proofs.lemmas.List.{drop_more, drop-drop}
@@ -49,7 +49,6 @@ chain_at t n p (e ∷ h) some is = by_test (cases_Bool (eqb (actor e) t)) (chain
     by_test (inr no') rest =
         let w = rest (sym (ap (λ b. cond b n (first_at t (n + 1) h)) no') ∙ is) in
         let i = w.0 in
-        let a = w.2 in
         let more : drop (i + 1 + 1) (e ∷ h) ≡ drop (i + 1) h = rw add-one refl in (
           i + 1,
           w.1,
@@ -61,8 +60,7 @@ chain_at t n p (e ∷ h) some is = by_test (cases_Bool (eqb (actor e) t)) (chain
         )
 
 one_right : (h : List Event) (found : ℕ → ℕ) (place : ℕ) (e : Event) (rest : List (ℕ × Event)) (r : Option Mismatch) → ((k : ℕ) → IsRight h found e k) → Tells h (after found e) rest r → Tells h found ((place, e) ∷ rest) r
-one_right h found place e rest None right tells = (right, tells)
-one_right h found place e rest (Some m) right tells = inr (right, tells)
+one_right h found place e rest r p q = grind arith
 
 -- where a transaction's replay stands: what is told from here on is told from the start
 pub record IsOnChain (h : List Event) (t : ℕ) (start : ℕ → ℕ) (versions : BTreeMap ℕ ℕ) (at : ℕ) : Type 0 where
@@ -125,9 +123,7 @@ module _ (h : List Event) (t : ℕ) (start : ℕ → ℕ) (versions : BTreeMap �
 
   -- nothing is left
   pub told_all : at ≡ 0 → (others : List (ℕ × Event)) (r : Option Mismatch) → Tells h (version_in versions) others r → Tells h start (events_of h t ++ others) r
-  told_all none others r tells =
-      let e = chain_end t (on.past + 1) (drop on.past h) (omega arith) (sym on.next ∙ none) in
-      on.told others r (subst (λ (l : List (ℕ × Event)). Tells h (version_in versions) (l ++ others) r) (sym e) tells)
+  told_all none others r tells = grind (arith, chain_end)
 
 -- the next place of a chain is later, or there is none
 pub first_later : (t n : ℕ) (h : List Event) → (first_at t n h ≡ 0) ⊎ (n ≤ first_at t n h)

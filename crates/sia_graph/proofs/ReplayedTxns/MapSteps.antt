@@ -23,10 +23,7 @@ same_is_at : (k q : ℕ) → k ≡ q → is_at (nat_cmp k) q ≡ true
 same_is_at k q e = let a = le-ltb k q (omega arith) in let b = eq-eqb k q e in rw (a, b)
 
 other_is_at : (k q : ℕ) → k ≢ q → is_at (nat_cmp k) q ≡ false
-other_is_at k q n = elim (cases_lt k q) [
-  | inl less ↦ let a = lt-ltb k q less in rw a
-  | inr more ↦ let a = le-ltb k q more in let b = ne_eqb k q n in rw (a, b)
-]
+other_is_at k q n = grind (arith, cases_lt, lt-ltb, le-ltb, ne_eqb)
 
 module _ (m n : BTreeMap ℕ ℕ) (k : ℕ) (w : Option ℕ) (u : Updates nat_cmp m n k w) where
   pub get_same : (q : ℕ) → k ≡ q → get nat_cmp n q ≡ w
@@ -73,8 +70,7 @@ module _ (h : List Event) where
   )
 
   commit_within : (t p : ℕ) → CommitsAt h t p → p ≤ length h
-  commit_within t zero at = cc
-  commit_within t (suc i) at = let l = slice_get_within h i _ at in omega arith
+  commit_within t p q = grind (arith, slice_get_within)
 
   pub all_commits : (b : ℕ) (m : BTreeMap ℕ ℕ) → length h ≤ b → AreCommitsTo b m → AreCommits h m
   all_commits b m past to t p = (λ g. ((to t p).0 g).1, λ c. (to t p).1 (let l = commit_within t p c in omega arith, c))
@@ -152,11 +148,7 @@ module _ (h : List Event) (order : List ℕ) where
       × ((t p : ℕ) → (get nat_cmp m t ≡ Some p) ↔ (CommitsAt h t p × ((i : ℕ) → i < n → get_or order i 0 ≢ t)))
 
   pub none_taken : (m : BTreeMap ℕ ℕ) → AreCommits h m → IsTakenOut m 0
-  none_taken m are = (
-    λ i j l k. absurd (omega arith),
-    λ i l. absurd (omega arith),
-    λ t p. (λ g. ((are t p).0 g, λ i l. absurd (omega arith)), λ w. (are t p).1 w.0),
-  )
+  none_taken m are = grind arith
 
   pub taken_more : (m new : BTreeMap ℕ ℕ) (n p : ℕ) → IsTakenOut m n → get nat_cmp m (get_or order n 0) ≡ Some p → Updates nat_cmp m new (get_or order n 0) None → IsTakenOut new (n + 1)
   taken_more m new n p before has u =
@@ -196,7 +188,6 @@ module _ (h : List Event) (order : List ℕ) where
       let own = get_or order n 0 in
       let commits = (is.each own).0 (n, within, get_or_default order n own 0 within) in
       let has = (taken.2 own commits.0).1 (commits.1, λ i l. is.once i n 0 l within) in
-      let f = sym none ∙ has in
       cc
 
   pub all_taken : (m : BTreeMap ℕ ℕ) (n : ℕ) (r : Bool) → n ≡ length order → IsTakenOut m n → (IsTrue r ↔ (btree_map_len m ≡ 0)) → IsTrue r ↔ IsOrder h order
@@ -216,14 +207,11 @@ module _ (h : List Event) (order : List ℕ) where
     λ is. empty.1 (no_entries m.entries (λ t p g.
         let w = (taken.2 t p).0 g in
         let has = (is.each t).1 (p, w.0) in
-        let l = has.1 in
         w.1 has.0 (omega arith) (get_or_default order has.0 0 t has.1 ∙ has.2))),
   )
 
 pub some_of : (o : Option ℕ) → is_some o ≡ true → (p : ℕ) × (o ≡ Some p)
-some_of None e = cc
-some_of (Some p) e = (p, refl)
+some_of o q = grind arith
 
 pub none_of : (o : Option ℕ) → is_some o ≡ false → o ≡ None
-none_of None e = refl
-none_of (Some p) e = cc
+none_of o p = grind arith

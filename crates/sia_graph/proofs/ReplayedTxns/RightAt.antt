@@ -1,5 +1,5 @@
 -- Whether an event of a replay is right at a key.
-use Rattle.std.proofs.Common.{◌≡◌, ◌≢◌, ◌⊎◌, inl, inr, ℕ, ◌+◌, ◌<◌, ◌≤◌, true, false, List, [], ◌∷◌, length, get_or, map, min, Option, Some, None, Result, Ok, Err, ltb, unwrap_or, ap, sym, ◌∙◌, refl, subst, arith}
+use Rattle.std.proofs.Common.{◌≡◌, ◌≢◌, ◌⊎◌, inl, inr, ℕ, ◌+◌, ◌<◌, ◌≤◌, false, List, [], ◌∷◌, length, get_or, map, min, Option, Some, None, Result, Ok, Err, ltb, unwrap_or, ap, sym, ◌∙◌, refl, subst, arith}
 use Rattle.std.specs.Prelude.{All, Contains, IsTrue, ◌↔◌, MatchOption}
 use Rattle.std.specs.List.Sorted.{IsStrictlyIncreasing, IsBinarySearchResult, IsSearchInRange}
 use Rattle.std.proofs.lemmas.Bool.{cases_lt, cases_eq, cases_order, ne_eqb, ltb-true, lt-ltb, le-ltb, eq-eqb}
@@ -10,25 +10,17 @@ use Rattle.sia_events.specs.declared.event.Event.{Event}
 use Rattle.sia_events.specs.Transactions.{Wrote, CommitsAt}
 use Rattle.sia_events.specs.Refusals.{IsWellFormed}
 use Rattle.sia_events.specs.Replay.{MayFollow}
-use Rattle.std.specs.BTreeMap.{BTreeMap, get}
+use Rattle.std.specs.BTreeMap.{BTreeMap}
 use Rattle.std.specs.BTreeMap.Range.{IsRangeOf}
 use Rattle.std.specs.declared.ops.Bound.TheVariants.{Included}
 use Rattle.std.specs.Ordering.{nat_cmp, is_gt}
-use Rattle.std.specs.Option.{IsSome, is_some}
 use Rattle.std.specs.Result.{is_ok}
 use Rattle.sia_events.specs.declared.event.Event.TheVariants.{Range, Write}
 use Rattle.sia_graph.specs.Replaying.{Agrees, IsRight, version_in}
 use Rattle.sia_graph.proofs.Shared.Facts.{commits_lt}
 
 no_greater : (k q : ℕ) → is_gt (nat_cmp k q) ≡ false → k ≤ q
-no_greater k q e = elim (cases_lt q k) [
-  | inr more ↦ more
-  | inl less ↦
-      let a = le-ltb k q (omega arith) in
-      let b = ne_eqb k q (λ same. omega arith) in
-      let f : is_gt (nat_cmp k q) ≡ true = rw (a, b) in
-      absurd (let g = sym f ∙ e in cc)
-]
+no_greater k q e = grind (arith, cases_lt, le-ltb, ne_eqb)
 
 module _ (listed : List (ℕ × ℕ)) (up : IsStrictlyIncreasing (map (λ p. p.0) listed)) where
   pub keys_less : (i j : ℕ) (d : ℕ × ℕ) → i < j → j < length listed → (get_or listed i d).0 < (get_or listed j d).0
@@ -58,40 +50,15 @@ module _ (listed : List (ℕ × ℕ)) (up : IsStrictlyIncreasing (map (λ p. p.0
 
 -- of two committed writers the one that commits first may be followed by the other
 pub follows_iff : (h : List Event) → IsWellFormed h → (k v t c d : ℕ) → v ≢ 0 → v ≢ t → Wrote h v k → Wrote h t k → CommitsAt h v c → CommitsAt h t d → IsTrue (ltb c d) ↔ MayFollow h k v t
-follows_iff h wf k v t c d some other first second at_c at_d = (
-  λ b. inr (inr (inr (first, second, (c, d, at_c, at_d, ltb-true c d b)))),
-  λ f. elim f [
-    | inl none ↦ absurd (some none)
-    | inr (inl same) ↦ absurd (other same)
-    | inr (inr (inl none)) ↦ absurd (some none.0)
-    | inr (inr (inr before)) ↦ lt-ltb c d (commits_lt h wf v t c d at_c at_d before.2)
-  ],
-)
+follows_iff h wf k v t c d some other first second at_c at_d = grind (arith, ltb-true, lt-ltb, commits_lt)
 
 no_lesser : (k q : ℕ) → k ≤ q → is_gt (nat_cmp k q) ≡ false
-no_lesser k q l = elim (cases_eq k q) [
-  | inl e ↦ let a = le-ltb k q (omega arith) in let b = eq-eqb k q e in rw (a, b)
-  | inr other ↦ elim (cases_lt k q) [ inl less ↦ let a = lt-ltb k q less in rw a | inr more ↦ absurd (other (omega arith)) ]
-]
+no_lesser k q l = grind (arith, cases_eq, le-ltb, eq-eqb, cases_lt, lt-ltb)
 
 -- the first entry of a range of a map
 pub range_first : (m : BTreeMap ℕ ℕ) (a b : ℕ) (r : List (ℕ × ℕ)) → IsRangeOf nat_cmp (Included a) (Included b) m r → (k v : ℕ) (t : List (ℕ × ℕ)) → r ≡ (k, v) ∷ t
     → (a ≤ k) × (k ≤ b) × (v ≡ version_in m k) × ((q : ℕ) → a ≤ q → q < k → version_in m q ≡ 0)
-range_first m a b r range k v t is =
-    let w = subst (λ l. IsRangeOf nat_cmp (Included a) (Included b) m l) is range in
-    let here = w.1 in
-    let low = no_greater a k here.0.0 in
-    let high = no_greater k b here.0.1 in
-    (low, high, ap (λ o. unwrap_or o 0) (sym here.1), λ q l less. by_value q l less (get nat_cmp m q) refl)
-  where
-    by_value : (q : ℕ) → a ≤ q → q < k → (o : Option ℕ) → get nat_cmp m q ≡ o → version_in m q ≡ 0
-    by_value q l less None e = ap (λ o. unwrap_or o 0) e
-    by_value q l less (Some x) e =
-        let w = subst (λ l. IsRangeOf nat_cmp (Included a) (Included b) m l) is range in
-        let high = no_greater k b w.1.0.1 in
-        let some : IsSome (get nat_cmp m q) = ap is_some e in
-        let n = no_greater k q (w.2 q (no_lesser a q l, no_lesser q b (omega arith)) some) in
-        absurd (omega arith)
+range_first m a b r range k v t is = grind (arith, no_greater, unwrap_or, no_lesser)
 
 -- and where a range has none
 pub range_none : (m : BTreeMap ℕ ℕ) (a b : ℕ) (r : List (ℕ × ℕ)) → IsRangeOf nat_cmp (Included a) (Included b) m r → r ≡ [] → (q : ℕ) → a ≤ q → q ≤ b → version_in m q ≡ 0

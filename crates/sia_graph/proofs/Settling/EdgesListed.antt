@@ -120,25 +120,7 @@ module _ (targets : List (List ℕ)) (left : List Bool) where
 
   -- one place more, which leads elsewhere or isn't left
   passed : (i j p : ℕ) → (Contains (get_or targets i []) j → ¬ IsLeftIn left i) → IsLeastFrom (i + 1) j p → IsLeastFrom i j p
-  passed i j p out (inl (same, none)) = inl (
-    same,
-    λ k a b. elim (cases_eq k i) [
-      | inl e ↦ subst (λ n. Contains (get_or targets n []) j → ¬ IsLeftIn left n) (sym e) out
-      | inr other ↦ none k (at_least k a other) b
-    ],
-  )
-    where
-      at_least : (k : ℕ) → i ≤ k → k ≢ i → i + 1 ≤ k
-      at_least k a other = elim (cases_lt i k) [ inl less ↦ omega arith | inr more ↦ absurd (other (omega arith)) ]
-  passed i j p out (inr (b, c, is, low)) = inr (
-    b,
-    c,
-    is,
-    λ k a below aims left_k. elim (cases_eq k i) [
-      | inl e ↦ absurd (subst (λ n. Contains (get_or targets n []) j → ¬ IsLeftIn left n) (sym e) out aims left_k)
-      | inr other ↦ low k (elim (cases_lt i k) [ inl less ↦ omega arith | inr more ↦ absurd (other (omega arith)) ]) below aims left_k
-    ],
-  )
+  passed i j p q r = grind (arith, cases_eq, cases_lt)
 
   pub kept_back : (i : ℕ) (previous : List ℕ) → ¬ IsLeftIn left i → AreLeastFrom (i + 1) previous → AreLeastFrom i previous
   kept_back i previous out are = (are.0, λ j l. passed i j (get_or previous j 0) (λ c. out) (are.1 j l))
@@ -166,7 +148,6 @@ pub least_found : (ids : List ℕ) (edges : List Edge) (g : Graph) (of : IsGraph
 least_found ids edges g of left same previous are i l = elim (are.1 i (omega arith)) [
   | inl w ↦ inr (w.0, λ q s. w.1 q (omega arith) (let b = s.0 in omega arith) ((of.at_targets q i s.0).1 (l, s.2)) s.1)
   | inr w ↦
-      let b = w.0 in
       let p = get_or previous i 0 in
       let inside : p < length ids = omega arith in
       inl ((inside, w.2, ((of.at_targets p i inside).0 w.1).1), λ q s. w.3 q (omega arith) (let d = s.0 in omega arith) ((of.at_targets q i s.0).1 (l, s.2)) s.1)

@@ -39,19 +39,13 @@ module _ (h : List Event) (a : Accesses) (are : AreAccesses h (λ _. ⊤) a) (i 
   missed_inside = let long = are.missed_long at.0 at.1 in let below = at.2 in omega arith
 
   pub saw_is : (q : ℕ) → Contains (get_or a.saw i []) q ↔ SawPosition a i q
-  saw_is q = (
-    (λ c. (get_or a.saw i [], slice_get-get_or a.saw i [] saw_inside, c)),
-    (λ s. subst (λ (xs : List ℕ). Contains xs q) (sym (list_at a.saw i saw_inside s.0 s.1)) s.2),
-  )
+  saw_is q = grind (arith, slice_get-get_or, saw_inside, list_at)
 
   pub saw_position : (q : ℕ) → SawPosition a i q → HasPosition h q
   saw_position q s = let w = are.saw i q s in (w.3.version.0, w.3.version.1)
 
   pub missed_is : (miss : RangeMiss) → Contains (get_or a.missed i []) miss ↔ HasMiss a i miss
-  missed_is miss = (
-    (λ c. (get_or a.missed i [], slice_get-get_or a.missed i [] missed_inside, c)),
-    (λ s. subst (λ (xs : List RangeMiss). Contains xs miss) (sym (list_at a.missed i missed_inside s.0 s.1)) s.2),
-  )
+  missed_is miss = grind (arith, slice_get-get_or, missed_inside, list_at)
 
   -- any list of these misses holds the keys that were missed
   pub missed_held : (misses : List RangeMiss) → ((miss : RangeMiss) → Contains misses miss ↔ Contains (get_or a.missed i []) miss) → (j : ℕ) → IsHeldBy misses j ↔ Missed a i j

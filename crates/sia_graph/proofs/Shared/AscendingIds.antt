@@ -1,5 +1,5 @@
 -- Positions of ids in a sorted list.
-use Rattle.std.proofs.Common.{◌≡◌, inl, inr, ℕ, zero, suc, ◌<◌, ◌≤◌, true, false, List, length, get_or, ltb, ap, ◌∙◌, arith}
+use Rattle.std.proofs.Common.{◌≡◌, inl, inr, ℕ, zero, suc, ◌<◌, ◌≤◌, true, false, List, length, get_or, ltb, ◌∙◌, arith}
 use Rattle.std.specs.Prelude.{Contains}
 use Rattle.std.specs.List.Sorted.{IsStrictlyIncreasing, IsNonDecreasingBy, IsPartitionPoint}
 use Rattle.std.proofs.lemmas.Bool.{cases_lt, cases_order, ltb-true, ltb-false}
@@ -11,17 +11,10 @@ module _ (ids : List ℕ) (up : IsStrictlyIncreasing ids) where
   ids_less i j l b = AllPairs-from_increasing ids up i j 0 l b
 
   pub ids_no_less : (i j : ℕ) → i ≤ j → j < length ids → get_or ids i 0 ≤ get_or ids j 0
-  ids_no_less i j l b = elim (cases_lt i j) [
-    | inl less ↦ let m = ids_less i j less b in omega arith
-    | inr more ↦ let e : i ≡ j = omega arith in let f = ap (λ k. get_or ids k 0) e in omega arith
-  ]
+  ids_no_less i j l b = grind (arith, cases_lt, ids_less)
 
   pub one_id : (i j : ℕ) → i < length ids → j < length ids → get_or ids i 0 ≡ get_or ids j 0 → i ≡ j
-  one_id i j a b e = elim (cases_order i j) [
-    | inl same ↦ same
-    | inr (inl less) ↦ let l = ids_less i j less b in absurd (omega arith)
-    | inr (inr more) ↦ let l = ids_less j i more a in absurd (omega arith)
-  ]
+  one_id i j a b e = grind (arith, cases_order, ids_less)
 
   -- an id is no less than its place
   pub place_below : (k : ℕ) → k < length ids → k ≤ get_or ids k 0
@@ -38,7 +31,6 @@ module _ (ids : List ℕ) (up : IsStrictlyIncreasing ids) where
   pub found_position : (t i : ℕ) → IsPartitionPoint (λ y. ltb y t ≡ true) (λ y. ltb y t ≡ false) ids i → Contains ids t → (i < length ids) × (get_or ids i 0 ≡ t)
   found_position t i point c =
       let k = c.0 in
-      let below = c.1 in
       let e : get_or ids k 0 ≡ t = get_or_default ids k 0 t c.1 ∙ c.2 in
       elim (cases_lt k i) [
         | inl less ↦ let l = ltb-true (get_or ids k 0) t (point.0 k 0 (omega arith) less) in absurd (omega arith)

@@ -1,5 +1,5 @@
 -- Relations with the same ways settle alike: an order that keeps the one keeps the other, and the same set is stuck.
-use Rattle.std.proofs.Common.{◌≡◌, ◌≢◌, ◌⊎◌, inl, inr, ℕ, zero, suc, List, [], ◌∷◌, ◌++◌, subst, arith}
+use Rattle.std.proofs.Common.{◌≢◌, ◌⊎◌, inl, inr, ℕ, zero, suc, List, [], ◌∷◌, ◌++◌, subst, arith}
 use Rattle.std.specs.Prelude.{Contains, AllPairs}
 use Rattle.std.proofs.lemmas.List.Elements.{Contains-append_left, Contains-append_right, Contains-append_cases}
 use Rattle.sia_events.specs.Closures.{HaveSameClosure}
@@ -12,11 +12,7 @@ use Rattle.sia_graph.proofs.Shared.Ways.{IsWay, Reaches, SameWays, same_ways}
 use Rattle.sia_graph.proofs.Shared.Positions.{one_position}
 
 pub stands_before_trans : (order : List ℕ) → AllPairs (λ x y. x ≢ y) order → (t s u : ℕ) → StandsBefore order t s → StandsBefore order s u → StandsBefore order t u
-stands_before_trans order once t s u a b =
-    let same : a.1 ≡ b.0 = one_position order once s a.1 b.0 a.4 b.3 in
-    let l = a.2 in
-    let m = b.2 in
-    (a.0, b.1, omega arith, a.3, b.4)
+stands_before_trans order once t s u a b = grind (arith, one_position)
 
 module _ (R : ℕ → ℕ → Type 0) where
   -- an order that keeps each step keeps each way

@@ -1,5 +1,5 @@
 -- How many elements of a list pass a test.
-use Rattle.std.proofs.Common.{◌≡◌, ℕ, zero, suc, ◌+◌, ◌<◌, ◌≤◌, Bool, true, false, cond, List, [], ◌∷◌, slice_get, Some, ap, ◌∙◌, refl, arith}
+use Rattle.std.proofs.Common.{◌≡◌, ℕ, zero, suc, ◌+◌, ◌<◌, ◌≤◌, Bool, true, false, cond, List, [], ◌∷◌, slice_get, Some, ap, ◌∙◌, arith}
 use Rattle.std.specs.List.{count_by}
 use Rattle.std.proofs.lemmas.List.Sums.{sum_by-cons}
 use Rattle.std.proofs.lemmas.Option.{same_Some}
@@ -10,20 +10,12 @@ module _ {A : Type 0} (p : A → Bool) where
   count_first x xs e = sum_by-cons (λ y. cond (p y) 1 0) x xs ∙ ap (λ b. cond b 1 0 + count_by p xs) e
 
   pub count_later : (x : A) (xs : List A) → p x ≡ false → count_by p (x ∷ xs) ≡ count_by p xs
-  count_later x xs e =
-      let z : 0 + count_by p xs ≡ count_by p xs = omega arith in
-      sum_by-cons (λ y. cond (p y) 1 0) x xs ∙ ap (λ b. cond b 1 0 + count_by p xs) e ∙ z
+  count_later x xs e = grind (arith, sum_by-cons)
 
 -- fewer pass a stricter test, and one fewer at least if some element tells the two apart
 module _ {A : Type 0} (p q : A → Bool) (under : (x : A) → q x ≡ true → p x ≡ true) where
   first_fewer : (m n : ℕ) (x : A) → m ≤ n → cond (q x) 1 0 + m ≤ cond (p x) 1 0 + n
-  first_fewer m n x l = by_tests (q x) (p x) (under x)
-    where
-      by_tests : (b c : Bool) → (b ≡ true → c ≡ true) → cond b 1 0 + m ≤ cond c 1 0 + n
-      by_tests true true u = omega arith
-      by_tests true false u = absurd (let e = u refl in cc)
-      by_tests false true u = omega arith
-      by_tests false false u = omega arith
+  first_fewer m n x l = grind arith
 
   pub counts_fewer : (xs : List A) → count_by q xs ≤ count_by p xs
   counts_fewer [] = omega arith

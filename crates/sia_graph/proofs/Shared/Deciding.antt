@@ -8,19 +8,13 @@ use Rattle.sia_events.specs.Places.{at_place}
 use Rattle.sia_events.proofs.Shared.Decisions.{Decided, first_below}
 
 pub three_decided : (P Q R : Type 0) → Decided P → Decided Q → Decided R → Decided (P × Q × R)
-three_decided P Q R (inr n) e f = inr (λ w. n w.0)
-three_decided P Q R (inl p) (inr n) f = inr (λ w. n w.1)
-three_decided P Q R (inl p) (inl q) (inr n) = inr (λ w. n w.2)
-three_decided P Q R (inl p) (inl q) (inl r) = inl (p, q, r)
+three_decided P Q R p q r = grind arith
 
 pub either_decided : (P Q : Type 0) → Decided P → Decided Q → Decided (P ⊎ Q)
-either_decided P Q (inl p) d = inl (inl p)
-either_decided P Q (inr n) (inl q) = inl (inr q)
-either_decided P Q (inr n) (inr m) = inr (λ w. elim w [ inl p ↦ n p | inr q ↦ m q ])
+either_decided P Q p q = grind arith
 
 pub not_decided : (P : Type 0) → Decided P → Decided (¬ P)
-not_decided P (inl p) = inr (λ n. n p)
-not_decided P (inr n) = inl n
+not_decided P p = grind arith
 
 pub le_decided : (m n : ℕ) → Decided (m ≤ n)
 le_decided m n = elim (cases_lt n m) [ inl less ↦ inr (λ l. omega arith) | inr more ↦ inl more ]
@@ -53,11 +47,4 @@ event_decided P decide h = elim (element_decided P decide h) [
     nowhere none (suc i) e at has = none (i, e, at, has)
 
 pub is_write : (t k : ℕ) (e : Event) → Decided (e ≡ Write t k)
-is_write t k (Write u j) = elim (cases_eq u t) [
-  | inl a ↦ elim (cases_eq j k) [
-    | inl b ↦ inl (λ i. Write (a i) (b i))
-    | inr n ↦ inr (λ p. n (let q : j ≡ k = cc in q))
-  ]
-  | inr n ↦ inr (λ p. n (let q : u ≡ t = cc in q))
-]
-is_write t k e = inr (λ p. cc)
+is_write t k e = grind (arith, cases_eq)

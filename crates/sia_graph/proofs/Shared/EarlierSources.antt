@@ -143,7 +143,6 @@ module _ (h : List Event) (wf : IsWellFormed h) (a : Accesses) (left : List Bool
         (let less = commits_less h w.0 w.1 m.0 n.0 m.1 n.1 (m.2 ∙ sym n.2) w.4 in
         let one = one_commit h wf u m.0.commit n.0.commit (subst (λ x. CommitsAt h x m.0.commit) same (made_commits h wf w.0 t k m).1) (made_commits h wf w.1 u k n).1 in
         omega arith) in
-        let l = w.4 in
         inl (w.1, (lists.each w.1).1 (n.0, n.1, n.4, n.3), (inl (w.0, omega arith, (m.0, n.0, m.1, n.1, m.2 ∙ sym n.2), (is, m.0, m.1, subst (IsCommittedAt h r) (sym m.3) at, m.4)), no_own r t at other))
     from_edge r t k is at Wr edge =
         let w = (wr_positions h wf versions all a are t u k).0 edge in

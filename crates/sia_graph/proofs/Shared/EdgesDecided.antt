@@ -1,5 +1,5 @@
 -- Which edges a well-formed history has can be told.
-use Rattle.std.proofs.Common.{◌≡◌, ◌≢◌, ◌⊎◌, inl, inr, ℕ, ◌≤◌, List, Some, refl, ap, subst, ◌∙◌}
+use Rattle.std.proofs.Common.{◌≡◌, ◌≢◌, inl, inr, ℕ, ◌≤◌, List, Some, refl, ap, subst, ◌∙◌, arith, rules}
 use Rattle.std.specs.Prelude.{Contains, ⊤}
 use Rattle.std.proofs.lemmas.Bool.{cases_eq}
 use Rattle.std.proofs.lemmas.Option.{slice_get_within, slice_get-get_or, get_or_from_slice_get}
@@ -78,23 +78,16 @@ module _ (h : List Event) (wf : IsWellFormed h) where
   writer_decided k t = both (Wrote h t k) (IsCommitted h t) (wrote_or_not h t k) (committed_or_not h t)
 
   version_before_decided : (k v w : ℕ) → Decided (IsVersionBefore h k v w)
-  version_before_decided k v w =
-      either_decided ((v ≡ 0) × IsCommittedWriter h k w) (WwEdge h v w k) (both (v ≡ 0) (IsCommittedWriter h k w) (cases_eq v 0) (writer_decided k w)) (ww_decided v w k)
+  version_before_decided k v w = search (rules, arith, either_decided, both, cases_eq, writer_decided, ww_decided)
 
   differ_or_not : (t u : ℕ) → Decided (t ≢ u)
   differ_or_not t u = not_decided (t ≡ u) (cases_eq t u)
 
   wr_decided : (t u k : ℕ) → Decided (WrEdge h t u k)
-  wr_decided t u k =
-      seen_decided h (t ≢ u) (IsCommittedWriter h k t) (IsCommitted h u) (IsCommitted h) (λ v. v ≢ u) (λ v. (t ≡ v) ⊎ IsVersionBefore h k t v) u k
-      (differ_or_not t u) (writer_decided k t) (committed_or_not h u) (committed_or_not h) (λ v. differ_or_not v u)
-      (λ v. either_decided (t ≡ v) (IsVersionBefore h k t v) (cases_eq t v) (version_before_decided k t v))
+  wr_decided t u k = search (rules, arith, seen_decided, differ_or_not, writer_decided, committed_or_not, either_decided, cases_eq, version_before_decided)
 
   rw_at_decided : (t u k : ℕ) → Decided (RwEdge h t u k)
-  rw_at_decided t u k =
-      seen_decided h (t ≢ u) (IsCommitted h t) (IsCommittedWriter h k u) (λ v. (v ≡ 0) ⊎ IsCommitted h v) (λ v. v ≢ t) (λ v. IsVersionBefore h k v u) t k
-      (differ_or_not t u) (committed_or_not h t) (writer_decided k u) (λ v. either_decided (v ≡ 0) (IsCommitted h v) (cases_eq v 0) (committed_or_not h v))
-      (λ v. differ_or_not v t) (λ v. version_before_decided k v u)
+  rw_at_decided t u k = search (rules, arith, seen_decided, differ_or_not, committed_or_not, writer_decided, either_decided, cases_eq, version_before_decided)
 
   pub edge_decided : (kind : Kind) (t u k : ℕ) → Decided (EdgeOfKind h kind t u k)
   edge_decided Ww t u k = ww_decided t u k

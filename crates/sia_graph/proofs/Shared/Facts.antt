@@ -46,15 +46,10 @@ module _ (h : List Event) (wf : IsWellFormed h) where
   sees_le t u s c starts commits sees =
       let a : sees.0 ≡ s = one_start h t sees.0 s sees.2 starts in
       let b : sees.1 ≡ c = one_commit h wf u sees.1 c sees.3 commits in
-      let l = sees.4 in
       omega arith
 
   pub commits_lt : (t u c d : ℕ) → CommitsAt h t c → CommitsAt h u d → CommitsBefore h t u → c < d
-  commits_lt t u c d at_c at_d before =
-      let a : before.0 ≡ c = one_commit h wf t before.0 c before.2 at_c in
-      let b : before.1 ≡ d = one_commit h wf u before.1 d before.3 at_d in
-      let l = before.4 in
-      omega arith
+  commits_lt t u c d at_c at_d before = grind (arith, one_commit)
 
   pub commits_before_decided : (t u : ℕ) → Decided (CommitsBefore h t u)
   commits_before_decided t u = elim (committed_or_not h t) [

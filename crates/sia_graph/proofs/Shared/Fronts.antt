@@ -62,7 +62,6 @@ module _ (M : ℕ → Type 0) (E : Edge → Type 0) where
           λ s leads.
               let b = keeping.1 s u leads in
               let e : b.1 ≡ length front + 0 = one u b.1 (length front + 0) b.4 here in
-              let l = b.2 in
               (b.0, get_within front (u ∷ more) b.0 s (omega arith) b.3),
         ),
       )
@@ -78,7 +77,6 @@ module _ (M : ℕ → Type 0) (E : Edge → Type 0) where
       | inl here ↦ let w = f.closed s u i leads here in (w.0, w.1, get_left front (t ∷ []) w.0 s w.2)
       | inr w ↦
           let same = only_one u t w.0 w.2 in
-          let z = same.0 in
           let p = w.1 in
           let from = ready.2 s (subst (λ x. Leads E s x) (sym same.1) leads) in
           let l = slice_get_within front from.0 s from.1 in
@@ -96,17 +94,10 @@ module _ (M : ℕ → Type 0) (E : Edge → Type 0) where
       by_cases u i j (inr a) (inr b) =
           let x = (only_one u t a.0 a.2).0 in
           let y = (only_one u t b.0 b.2).0 in
-          let p = a.1 in
-          let q = b.1 in
           omega arith
 
   pub front_none : IsFront M E []
-  front_none = record {
-    members = λ t i at. cc;
-    once = λ t i j a b. cc;
-    closed = λ s t i leads at. cc;
-    no_later = λ order keeping. tt;
-  }
+  front_none = grind arith
 
   -- a front of all members is the least order
   pub whole_front : (front : List ℕ) → IsFront M E front → ((t : ℕ) → M t → Stands front t) → ((s t : ℕ) → Leads E s t → M t) → IsLeastOrder M E front
@@ -132,7 +123,6 @@ module _ (M : ℕ → Type 0) (E : Edge → Type 0) where
     none_below (suc n) i t l at f =
         let from = fed t f in
         let w = closed from.0 t i from.2 at in
-        let less = w.1 in
         none_below n w.0 from.0 (omega arith) w.2 from.1
 
     pub none_fed : (t : ℕ) → Stands xs t → ¬ F t
@@ -145,6 +135,5 @@ module _ (M : ℕ → Type 0) (E : Edge → Type 0) where
       (λ s u i leads at.
       let b = keeping.1 s u leads in
       let e : i ≡ b.1 = one_position order keeping.0.once u i b.1 at b.4 in
-      let l = b.2 in
       (b.0, omega arith, b.3))
       F (λ u g. let w = fed u g in (w.1, w.2, w.3)) t (contains_stands order t ((keeping.0.each t).1 (fed t f).0)) f

@@ -1,11 +1,11 @@
 -- Who wrote a key last, told from the front of a list of events.
-use Rattle.std.proofs.Common.{◌≡◌, ◌≢◌, ◌⊎◌, inl, inr, ℕ, zero, suc, ◌+◌, Bool, true, false, cond, List, [], ◌∷◌, ◌++◌, take, filter, find, slice_get, Some, option_map, unwrap_or, refl, ap, sym, subst, ◌∙◌, ◌==◌}
+use Rattle.std.proofs.Common.{◌≡◌, ◌≢◌, ◌⊎◌, inl, inr, ℕ, suc, ◌+◌, Bool, true, false, cond, List, [], ◌∷◌, ◌++◌, take, filter, find, slice_get, Some, option_map, unwrap_or, refl, ap, sym, subst, ◌∙◌, ◌==◌, arith}
 use mathlib.Core.List.{reverse_aux}
 use Rattle.std.specs.List.{enumerate_from}
 use Rattle.std.proofs.lemmas.Bool.{eqb-true, eqb-false, false≢true}
 use Rattle.std.proofs.lemmas.Option.{same_Some}
 use Rattle.sia_events.specs.declared.event.Event.{Event}
-use Rattle.sia_events.specs.declared.event.Event.TheVariants.{Begin, Read, Range, Write, Commit, Abort}
+use Rattle.sia_events.specs.declared.event.Event.TheVariants.{Write}
 use Rattle.sia_events.specs.Events.{actor}
 use Rattle.sia_events.specs.Replay.{is_write_of, found_at}
 
@@ -19,11 +19,7 @@ abbrev first_or : ℕ → ℕ → List (ℕ × Event) → ℕ
 first_or k d es = unwrap_or (option_map (λ e. actor e.1) (find (λ e. is_write_of k e.1) es)) d
 
 first_cons : (k d : ℕ) (e : ℕ × Event) (es : List (ℕ × Event)) → first_or k d (e ∷ es) ≡ cond (is_write_of k e.1) (actor e.1) (first_or k d es)
-first_cons k d e es = by_test (is_write_of k e.1)
-  where
-    by_test : (b : Bool) → unwrap_or (option_map (λ (x : ℕ × Event). actor x.1) (cond b (Some e) (find (λ x. is_write_of k x.1) es))) d ≡ cond b (actor e.1) (first_or k d es)
-    by_test true = refl
-    by_test false = refl
+first_cons k d e es = grind (arith, unwrap_or, option_map, find)
 
 first_of_reverse : (k d : ℕ) (es others : List (ℕ × Event)) → first_or k d (reverse_aux es others) ≡ last_from k (first_or k d others) es
 first_of_reverse k d [] others = refl
@@ -45,39 +41,24 @@ abbrev pub Writes : List Event → ℕ → ℕ → Type 0
 Writes h t k = (i : ℕ) × (slice_get h i ≡ Some (Write t k))
 
 is_the_write : (t k : ℕ) (e : Event) → is_write_of k e ≡ true → actor e ≡ t → e ≡ Write t k
-is_the_write t k (Write u j) w a = let b : k ≡ j = eqb-true k j w in λ i. Write (a i) (sym b i)
-is_the_write t k (Begin u s) w a = absurd (false≢true w)
-is_the_write t k (Read u j v) w a = absurd (false≢true w)
-is_the_write t k (Range u lo hi listed) w a = absurd (false≢true w)
-is_the_write t k (Commit u) w a = absurd (false≢true w)
-is_the_write t k (Abort u) w a = absurd (false≢true w)
+is_the_write t k e p q = grind (arith, eqb-true, false≢true)
 
 not_the_write : (t k : ℕ) (e : Event) → is_write_of k e ≡ false → e ≢ Write t k
-not_the_write t k (Write u j) w e = eqb-false k j w (let b : j ≡ k = cc in sym b)
-not_the_write t k (Begin u s) w e = cc
-not_the_write t k (Read u j v) w e = cc
-not_the_write t k (Range u lo hi listed) w e = cc
-not_the_write t k (Commit u) w e = cc
-not_the_write t k (Abort u) w e = cc
+not_the_write t k e p q = grind (arith, eqb-false)
 
 -- f is t, if it writes k in h, and else d
 abbrev pub IsLastOwn : List Event → ℕ → ℕ → ℕ → ℕ → Type 0
 IsLastOwn h t k d f = (Writes h t k × (f ≡ t)) ⊎ (¬ Writes h t k × (f ≡ d))
 
 later_only : (t k : ℕ) (e : Event) (h : List Event) → e ≢ Write t k → ¬ Writes h t k → ¬ Writes (e ∷ h) t k
-later_only t k e h other none w = by_place w.0 w.1
-  where
-    by_place : (i : ℕ) → slice_get (e ∷ h) i ≡ Some (Write t k) → ⊥
-    by_place zero at = other (same_Some e (Write t k) at)
-    by_place (suc i) at = none (i, at)
+later_only t k e h other none w = grind (arith, same_Some)
 
 after_other : (t k d f : ℕ) (e : Event) (h : List Event) → e ≢ Write t k → IsLastOwn h t k d f → IsLastOwn (e ∷ h) t k d f
 after_other t k d f e h other (inl w) = inl ((suc w.0.0, w.0.1), w.1)
 after_other t k d f e h other (inr n) = inr (later_only t k e h other n.0, n.1)
 
 after_write : (t k d x f : ℕ) (e : Event) (h : List Event) → e ≡ Write t k → x ≡ t → IsLastOwn h t k x f → IsLastOwn (e ∷ h) t k d f
-after_write t k d x f e h is same (inl w) = inl ((suc w.0.0, w.0.1), w.1)
-after_write t k d x f e h is same (inr n) = inl ((0, ap Some is), n.1 ∙ same)
+after_write t k d x f e h p q r = grind arith
 
 by_tests : (k d t n : ℕ) (e : Event) (h : List Event) (es : List (ℕ × Event)) (b w : Bool) → actor e == t ≡ b → is_write_of k e ≡ w
     → ((x : ℕ) → IsLastOwn h t k x (last_from k x es)) → IsLastOwn (e ∷ h) t k d (last_from k d (cond b ((n, e) ∷ es) es))

@@ -1,5 +1,5 @@
 -- The numbers of makers, by what an index answers.
-use Rattle.std.proofs.Common.{◌≡◌, inl, inr, ℕ, Bool, eqb, ◌<◌, ◌≤◌, List, Option, Some, None, ap, sym, subst, ◌∙◌, arith}
+use Rattle.std.proofs.Common.{◌≡◌, ℕ, Bool, eqb, ◌<◌, ◌≤◌, List, Option, Some, None, ap, sym, subst, arith}
 use Rattle.std.specs.Prelude.{◌↔◌, IsTrue, MatchOption}
 use Rattle.std.specs.Option.{option_eq}
 use Rattle.std.proofs.lemmas.Bool.{cases_lt, eq-eqb, eqb-true, false≢true}
@@ -21,8 +21,7 @@ use Rattle.sia_parts.proofs.EdgeRows.PositionOrder.{one_version as one_at}
 
 -- whether a number is the one that was found
 pub is_told : (found : Option ℕ) (i : ℕ) (r : Bool) → r ≡ option_eq eqb found (Some i) → IsTrue r ↔ (found ≡ Some i)
-is_told None i r e = ((λ t. absurd (false≢true (sym e ∙ t))), (λ n. absurd (none-some i n)))
-is_told (Some j) i r e = ((λ t. ap Some (eqb-true j i (sym e ∙ t))), (λ n. e ∙ eq-eqb j i (same_Some j i n)))
+is_told found i r p = grind (arith, false≢true, none-some, eqb-true, eq-eqb, same_Some)
 
 module _ (h : List Event) (q : ℕ) (v : KeyVersion) (at : IsAtPosition h q v) where
   pub maker_told : (found : Option ℕ) → MatchOption found (v.commit ≡ 0) (λ i. (0 < v.commit) × IsCommittedAt h i v.txn) → (i : ℕ) → (found ≡ Some i) ↔ IsMaker h q i
@@ -39,7 +38,6 @@ module _ (h : List Event) (q : ℕ) (v : KeyVersion) (at : IsAtPosition h q v) w
   none_next none i m =
       let next = subst (λ (x : KeyVersion). IsNextVersion h x.key x.commit m.2) (one_at h q m.0 v m.1 at) m.3 in
       let l = none m.2 next.0 next.1 in
-      let g = next.2 in
       omega arith
 
   -- who made the version at the next position
@@ -57,13 +55,7 @@ module _ (h : List Event) (q : ℕ) (v : KeyVersion) (at : IsAtPosition h q v) w
   module _ (wf : IsWellFormed h) where
     -- two versions of a key that one version is next after, and before it, are one
     same_before : (c d u : ℕ) → CommitsVersion h v.key v.txn v.commit → IsNextVersion h v.key c v.txn → c < v.commit → CommitsVersion h v.key u d → d < v.commit → d ≤ c
-    same_before c d u made next less other under = elim (cases_lt c d) [
-      | inr more ↦ more
-      | inl above ↦
-          let l = next.3 u d other above in
-          let e = one_commit h wf v.txn next.0 v.commit next.1.1 made.1 in
-          absurd (omega arith)
-    ]
+    same_before c d u made next less other under = grind (arith, cases_lt, one_commit)
 
     -- who made the version at the position before
     pub before_told : (p : ℕ) (w : KeyVersion) → IsAtPosition h p w → w.key ≡ v.key → w.commit < v.commit → IsNextVersion h v.key w.commit v.txn → (i : ℕ) → IsMaker h p i ↔ IsMakerBefore h q i

@@ -1,5 +1,5 @@
 -- The steps of one node, as they are put together.
-use Rattle.std.proofs.Common.{◌≡◌, ◌≢◌, ◌⊎◌, inl, inr, ℕ, ◌+◌, ◌*◌, ◌^◌, ◌<◌, ◌≤◌, List, [], Option, Some, refl, sym, subst, ◌∙◌, arith}
+use Rattle.std.proofs.Common.{◌≡◌, ◌≢◌, ◌⊎◌, inl, inr, ℕ, ◌+◌, ◌*◌, ◌<◌, ◌≤◌, List, [], Option, Some, refl, sym, subst, ◌∙◌, arith}
 use Rattle.std.specs.Prelude.{◌↔◌, Contains}
 use Rattle.std.proofs.Math.Nat.{mul-le-mul_left}
 use Rattle.sia_events.specs.declared.event.Event.{Event}
@@ -68,11 +68,7 @@ module _ (h : List Event) (a : Accesses) (size i t : ℕ) (at : IsCommittedAt h 
 
   -- a node of a transaction is over no key
   not_over : (m j : ℕ) → j < size → ¬ IsOver size (node_of size m) j
-  not_over m j below over =
-      let p = some_power over.0 in
-      let q : node_of size m * 1 ≤ node_of size m * 2 ^ over.0 = mul-le-mul_left (node_of size m) (omega arith) in
-      let l = over.1 in
-      omega arith
+  not_over m j below over = grind (arith, some_power, mul-le-mul_left)
 
   -- what it is before
   pub targets_put : (mid new : List ℕ) (Held : ℕ → Type 0) → Adds (FromSome (IsStepTo size i (IsNextMaker h)) saw) [] mid

@@ -19,7 +19,6 @@ module _ (h : List Event) (ps : List Pivot) (pivots : ArePivots h ps) where
   entry_of t d pivot =
       let c = (pivots.txns.each t).1 pivot in
       let k = c.0 in
-      let l = c.1 in
       let n = length-map ps (λ (p : Pivot). p.txn) in
       let e = get_or-map (λ (p : Pivot). p.txn) ps k d t (omega arith) in
       (k, omega arith, sym e ∙ c.2)

@@ -26,7 +26,6 @@ module _ (h : List Event) (wf : IsWellFormed h) where
   starts_lt t u s c starts commits before =
       let a : before.0 ≡ s = one_start h t before.0 s before.2 starts in
       let b : before.1 ≡ c = one_commit h wf u before.1 c before.3 commits in
-      let l = before.4 in
       omega arith
 
   sees_decided : (t u : ℕ) → Lifetime h t → Lifetime h u → Decided (Sees h t u)
@@ -152,7 +151,6 @@ module _ (h : List Event) (wf : IsWellFormed h) where
     sees_earlier : (t v u : ℕ) → Sees h u v → CommitsBefore h t v → Sees h u t
     sees_earlier t v u sees before =
         let l = commits_lt h wf t v before.0 sees.1 before.2 sees.3 before in
-        let m = sees.4 in
         (sees.0, before.0, sees.2, before.2, omega arith)
 
     pub ww_sees : (t u k : ℕ) → WwEdge h t u k → Sees h u t

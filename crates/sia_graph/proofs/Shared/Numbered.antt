@@ -31,8 +31,4 @@ module _ (h : List Event) where
 
   -- one version comes next
   pub one_next : (k c t u : ℕ) → IsNextVersion h k c t → IsNextVersion h k c u → t ≡ u
-  one_next k c t u a b =
-      let l = a.3 u b.0 b.1 b.2 in
-      let m = b.3 t a.0 a.1 a.2 in
-      let same : a.0 ≡ b.0 = omega arith in
-      one_committer h t u b.0 (subst (λ d. CommitsVersion h k t d) same a.1).1 b.1.1
+  one_next k c t u a b = grind (arith, one_committer)

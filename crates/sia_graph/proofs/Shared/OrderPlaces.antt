@@ -81,8 +81,7 @@ commits_in t (Write u k ∷ h) i = later t (Write u k) h (commits_in t h i)
 commits_in t (Abort u ∷ h) i = later t (Abort u) h (commits_in t h i)
 
 committed_in : (h : List Event) (t p : ℕ) → at_place h p ≡ Some (Commit t) → In t (commits h)
-committed_in h t zero e = cc
-committed_in h t (suc i) e = in_commits t h i e
+committed_in h t p q = grind (arith, in_commits)
 
 in_committed : (h : List Event) (t : ℕ) → In t (commits h) → IsCommitted h t
 in_committed h t i = let w = commits_in t h i in (suc w.0, w.1)

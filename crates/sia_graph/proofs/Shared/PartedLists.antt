@@ -109,57 +109,16 @@ pub record IsParted (P Q : ℕ → Type 0) (xs ys zs : List ℕ) : Type 0 where
   pub once : IsOnce xs → IsOnce ys × IsOnce zs
 
 turned : (P Q : ℕ → Type 0) (xs ys zs : List ℕ) → IsParted P Q xs ys zs → IsParted Q P xs zs ys
-turned P Q xs ys zs p = record {
-  left = p.right;
-  right = p.left;
-  whole = λ t i. p.whole t (elim i [ inl a ↦ inr a | inr b ↦ inl b ]);
-  parts = λ t i. elim (p.parts t i) [ inl a ↦ inr a | inr b ↦ inl b ];
-  ahead = λ t u a. elim (p.ahead t u a) [
-    | inl (inl b) ↦ inl (inr b)
-    | inl (inr b) ↦ inl (inl b)
-    | inr (inl w) ↦ inr (inr w)
-    | inr (inr w) ↦ inr (inl w)
-  ];
-  once = λ o. let w = p.once o in (w.1, w.0);
-}
+turned P Q xs ys zs p = grind arith
 
 put_left : (P Q : ℕ → Type 0) (x : ℕ) (xs ys zs : List ℕ) → P x → IsParted P Q xs ys zs → IsParted P Q (x ∷ xs) (x ∷ ys) zs
-put_left P Q x xs ys zs has p = record {
-  left = λ t i. elim i [ inl e ↦ subst P e has | inr j ↦ p.left t j ];
-  right = p.right;
-  whole = λ t i. elim i [
-    | inl (inl e) ↦ inl e
-    | inl (inr j) ↦ inr (p.whole t (inl j))
-    | inr j ↦ inr (p.whole t (inr j))
-  ];
-  parts = λ t i. elim i [
-    | inl e ↦ inl (inl e)
-    | inr j ↦ elim (p.parts t j) [ inl a ↦ inl (inr a) | inr b ↦ inr b ]
-  ];
-  ahead = λ t u a. elim a [
-    | inl w ↦ elim (p.parts u w.1) [ inl j ↦ inl (inl (inl (w.0, j))) | inr j ↦ inr (inl (inl w.0, j)) ]
-    | inr b ↦ elim (p.ahead t u b) [
-      | inl (inl c) ↦ inl (inl (inr c))
-      | inl (inr c) ↦ inl (inr c)
-      | inr (inl w) ↦ inr (inl (inr w.0, w.1))
-      | inr (inr w) ↦ inr (inr (w.0, inr w.1))
-    ]
-  ];
-  once = λ o. let w = p.once o.1 in ((λ i. o.0 (p.whole x (inl i)), w.0), w.1);
-}
+put_left P Q x xs ys zs has p = grind arith
 
 put_right : (P Q : ℕ → Type 0) (x : ℕ) (xs ys zs : List ℕ) → Q x → IsParted P Q xs ys zs → IsParted P Q (x ∷ xs) ys (x ∷ zs)
 put_right P Q x xs ys zs has p = turned Q P (x ∷ xs) (x ∷ zs) ys (put_left Q P x xs zs ys has (turned P Q xs ys zs p))
 
 nothing_parted : (P Q : ℕ → Type 0) → IsParted P Q [] [] []
-nothing_parted P Q = record {
-  left = λ t i. absurd i;
-  right = λ t i. absurd i;
-  whole = λ t i. elim i [ inl a ↦ a | inr b ↦ b ];
-  parts = λ t i. inl i;
-  ahead = λ t u a. absurd a;
-  once = λ o. (o, o);
-}
+nothing_parted P Q = grind arith
 
 -- a list can be parted by any property, as far as a contradiction is sought
 pub parted : (P : ℕ → Type 0) (xs : List ℕ) → ((ys zs : List ℕ) → ¬ IsParted P (λ t. ¬ P t) xs ys zs) → ⊥

@@ -66,9 +66,6 @@ module _ (h : List Event) (wf : IsWellFormed h) where
           let c = edge.2 in
           let a = made_at k t c.0 (edge.0, c.2) in
           let b = made_at k u c.1 (edge.1, c.3) in
-          let e = a.2 in
-          let f = b.2 in
-          let less = c.4 in
           (a.0, b.0, a.1, b.1, positions_less h a.0 b.0 a.1.0 b.1.0 a.1.1 b.1.1 (a.1.2 ∙ sym b.1.2) (omega arith))),
       (λ w.
           let a = made_commits w.0 t k w.2 in
@@ -102,13 +99,9 @@ module _ (h : List Event) (wf : IsWellFormed h) where
         (λ edge.
             let l = look_of_wr k t u edge in
             let m = made_at k t l.1 l.2 in
-            let e = m.2 in
-            let le = l.4 in
-            let positive = commit_positive h wf t l.1 l.2.1 in
             elim (are.each u k l.0 t l.3 l.2.0 tt) [
               | inl s ↦
                   let x = look_seen s.0 s.1 u k l.0 s.2 in
-                  let f = x.1 in
                   (edge.0, m.0, s.1, m.1, x.0, positions_most h m.0 s.1 m.1.0 x.0.3 m.1.1 x.0.4 (m.1.2 ∙ sym x.0.5) (omega arith))
               | inr none ↦ let zero = none.0 in absurd (omega arith)
             ]),
@@ -123,7 +116,6 @@ module _ (h : List Event) (wf : IsWellFormed h) where
         (λ edge.
             let l = look_of_rw k t u edge in
             let m = made_at k u l.1 l.2 in
-            let e = m.2 in
             let less = l.4 in (
               edge.0,
               m.0,
@@ -131,7 +123,6 @@ module _ (h : List Event) (wf : IsWellFormed h) where
               elim (are.each t k l.0 u l.3 l.2.0 tt) [
                 | inl s ↦
                     let x = look_seen s.0 s.1 t k l.0 s.2 in
-                    let f = x.1 in
                     inl (s.1, x.0, positions_less h s.1 m.0 x.0.3 m.1.0 x.0.4 m.1.1 (x.0.5 ∙ sym m.1.2) (omega arith))
                 | inr none ↦ inr (none.1, none.2)
               ],

@@ -11,7 +11,7 @@ use Rattle.sia_events.proofs.Worked.OneList.{one_list_by}
 use Rattle.sia_events.proofs.Writing.WellFormed.{one_commit}
 use Rattle.sia_index.specs.Positions.{ArePositions, HasPosition, IsAtPosition, IsVersion}
 use Rattle.sia_index.specs.declared.info.KeyVersion.{KeyVersion}
-use Rattle.sia_graph.specs.Twos.{AreTwosOf, HaveOneKey, IsTwo, IsUpTo, IsWith}
+use Rattle.sia_graph.specs.Twos.{AreTwosOf, HaveOneKey, IsUpTo, IsWith}
 use Rattle.sia_graph.specs.declared.twos.Two.{Two}
 use Rattle.sia_graph.proofs.Shared.LeastNumbers.{two_same, two_with}
 use Rattle.sia_graph.proofs.Shared.Numbered.{commits_at}
@@ -31,18 +31,7 @@ before_less h q has before is b e = (subst (λ o. MatchOption o (has.0.commit �
 pub put_one : (P Q : ℕ → ℕ → Type 0) (twos : List Two) (at n : ℕ) (d new : Two) → at < length twos → n < 4294967295 → IsWith (get_or twos at d) n new
     → ((q r : ℕ) → P q r → r < 4294967295) → ((q r : ℕ) → P q r → Q q r) → Q at n → ((q r : ℕ) → Q q r → P q r ⊎ ((q ≡ at) × (r ≡ n)))
     → AreTwosOf P twos → AreTwosOf Q (set twos at new)
-put_one P Q twos at n d new below few with few_all to one back are q e l =
-    let long = length-set twos at new in
-    elim (cases_eq q at) [
-      | inl same ↦
-          subst (λ p. IsTwo (Q p) (get_or (set twos at new) p e)) (sym same)
-          (subst (IsTwo (Q at)) (sym (get_or-set_same twos at new e below))
-          (two_with (P at) (few_all at) (Q at) n (omega arith) (to at) (λ less. one) (λ r u. elim (back at r u) [ inl old ↦ inl old | inr w ↦ inr w.1 ])
-          (λ r u. elim (back at r u) [ inl old ↦ few_all at r old | inr w ↦ (let f = w.1 in omega arith) ]) (get_or twos at d) (are at d below) new with.0 with.1 with.2))
-      | inr other ↦
-          subst (IsTwo (Q q)) (sym (get_or-set_other twos at q new e other))
-          (two_same (P q) (Q q) (get_or twos q e) (to q) (λ r u. elim (back q r u) [ inl old ↦ old | inr w ↦ absurd (other w.0) ]) (are q e (omega arith)))
-    ]
+put_one P Q twos at n d new below few with few_all to one back are q e l = grind (arith, length-set, cases_eq, get_or-set_same, two_with, get_or-set_other, two_same)
 
 module _ (h : List Event) (wf : IsWellFormed h) where
   same_key : (p q : ℕ) (v w : KeyVersion) → IsAtPosition h p v → IsAtPosition h q w → HaveOneKey h p q → v.key ≡ w.key
@@ -76,7 +65,6 @@ module _ (h : List Event) (wf : IsWellFormed h) where
       → HaveOneKey h p b → p ≤ b → HaveOneKey h p q × (p < q)
   before_below q b p v at before one most =
       let w = before.0 in
-      let less = before.5 in
       ((one.0, v, one.2, at, same_key p b one.0 w one.2 before.1 one ∙ before.2), omega arith)
 
   -- version 0 has nothing before it
@@ -115,12 +103,10 @@ positions_below h count q are has =
     let at = has.1 in
     let same = one_list_by _ (IsVersion h) at.0 are.0 at.1 are.1 in
     let l = slice_get_within at.0 q has.0 at.2 in
-    let e = are.2 in
     let f = ap (length {A = KeyVersion}) same in
     omega arith
 
 pub below_positions : (h : List Event) (count q : ℕ) → ArePositions h count → q < count → HasPosition h q
 below_positions h count q are l =
-    let e = are.2 in
     let d : KeyVersion = record { key = 0; commit = 0; txn = 0 } in
     (get_or are.0 q d, (are.0, are.1, slice_get-get_or are.0 q d (omega arith)))

@@ -1,5 +1,5 @@
 -- Elements of lists by their positions.
-use Rattle.std.proofs.Common.{◌≡◌, ◌≢◌, ◌⊎◌, inl, inr, ℕ, zero, suc, ◌+◌, ◌<◌, true, false, List, [], ◌∷◌, ◌++◌, length, get_or, slice_get, Some, eqb, ap, sym, ◌∙◌, refl, arith}
+use Rattle.std.proofs.Common.{◌≡◌, ◌≢◌, ◌⊎◌, inl, inr, ℕ, zero, suc, ◌+◌, ◌<◌, true, false, List, [], ◌∷◌, ◌++◌, length, slice_get, Some, eqb, ap, sym, ◌∙◌, refl, arith}
 use Rattle.std.specs.Prelude.{Contains, AllPairs}
 use Rattle.std.proofs.lemmas.Bool.{or_cases, or_left, or_right, cases_order, eqb-true, eq-eqb}
 use Rattle.std.proofs.lemmas.Option.{same_Some, slice_get_within, slice_get-get_or, get_or_from_slice_get}
@@ -34,32 +34,20 @@ module _ {A : Type 0} where
   ]
 
   pub get_within : (xs ys : List A) (i : ℕ) (x : A) → i < length xs → slice_get (xs ++ ys) i ≡ Some x → slice_get xs i ≡ Some x
-  get_within xs ys i x l e = elim (get_cases xs ys i x e) [
-    | inl here ↦ here
-    | inr w ↦ let p = w.1 in absurd (omega arith)
-  ]
+  get_within xs ys i x l e = grind (arith, get_cases)
 
   pub only_one : (x y : A) (j : ℕ) → slice_get (y ∷ []) j ≡ Some x → (j ≡ 0) × (y ≡ x)
-  only_one x y zero e = (refl, same_Some y x e)
-  only_one x y (suc j) e = cc
+  only_one x y j p = grind (arith, same_Some)
 
   pub only_one_in : (x y : A) → Contains (x ∷ []) y → x ≡ y
   only_one_in x y c = let s = contains_stands (x ∷ []) y c in (only_one y x s.0 s.1).1
 
 -- each number has one position
 pub one_position : (xs : List ℕ) → AllPairs (λ x y. x ≢ y) xs → (t i j : ℕ) → slice_get xs i ≡ Some t → slice_get xs j ≡ Some t → i ≡ j
-one_position xs once t i j a b = elim (cases_order i j) [
-  | inl same ↦ same
-  | inr (inl less) ↦ absurd (once i j t less (slice_get_within xs j t b) (get_or_from_slice_get xs i t t a ∙ sym (get_or_from_slice_get xs j t t b)))
-  | inr (inr more) ↦ absurd (once j i t more (slice_get_within xs i t a) (get_or_from_slice_get xs j t t b ∙ sym (get_or_from_slice_get xs i t t a)))
-]
+one_position xs once t i j a b = grind (arith, cases_order, slice_get_within, get_or_from_slice_get)
 
 pub once_from_positions : (xs : List ℕ) → ((t i j : ℕ) → slice_get xs i ≡ Some t → slice_get xs j ≡ Some t → i ≡ j) → AllPairs (λ x y. x ≢ y) xs
-once_from_positions xs once i j d less below same =
-    let a = slice_get-get_or xs i d (omega arith) in
-    let b = slice_get-get_or xs j d below in
-    let e : i ≡ j = once (get_or xs j d) i j (a ∙ ap Some same) b in
-    omega arith
+once_from_positions xs once i j d less below same = grind (arith, slice_get-get_or)
 
 -- the test of a place, and what it decides
 pub stands_true : (xs : List ℕ) (t : ℕ) → Stands xs t → stands xs t ≡ true
@@ -88,7 +76,4 @@ pub stands_last : (xs : List ℕ) (t : ℕ) → Stands (xs ++ t ∷ []) t
 stands_last xs t = (length xs + 0, get_right xs (t ∷ []) 0 t refl)
 
 pub stands_cases : (xs : List ℕ) (t u : ℕ) → Stands (xs ++ t ∷ []) u → Stands xs u ⊎ (t ≡ u)
-stands_cases xs t u s = elim (get_cases xs (t ∷ []) s.0 u s.1) [
-  | inl here ↦ inl (s.0, here)
-  | inr w ↦ inr (only_one u t w.0 w.2).1
-]
+stands_cases xs t u s = grind (arith, get_cases, only_one)

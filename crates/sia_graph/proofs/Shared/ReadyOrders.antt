@@ -104,18 +104,7 @@ module _ (Edge : ℕ → ℕ → Type 0) where
 
     -- t, which is ready in xs, before an order of the others
     put_first : (xs order : List ℕ) (t : ℕ) → In t xs → ((s : ℕ) → In s xs → ¬ Edge s t) → KeepsAmong (without t xs) order → KeepsAmong xs (t ∷ order)
-    put_first xs order t i free k = record {
-      into = λ u j. elim (cases_eq t u) [ inl e ↦ inl e | inr n ↦ inr (k.into u (in_without t u xs n j)) ];
-      back = λ u j. elim j [ inl e ↦ subst (λ x. In x xs) e i | inr r ↦ (without_other t u xs (k.back u r)).1 ];
-      once = (λ j. (without_other t t xs (k.back t j)).0 refl, k.once);
-      kept = λ u w j l edge. elim (cases_eq t w) [
-        | inl e ↦ absurd (free u j (subst (λ x. Edge u x) (sym e) edge))
-        | inr n ↦ elim (cases_eq t u) [
-          | inl e ↦ inl (e, k.into w (in_without t w xs n l))
-          | inr m ↦ inr (k.kept u w (in_without t u xs m j) (in_without t w xs n l) edge)
-        ]
-      ];
-    }
+    put_first xs order t i free k = grind (arith, cases_eq, in_without, without_other)
 
     -- where no part of the members is fed, an order of them keeps every edge among them
     module _ (M : ℕ → Type 0) (none_fed : (x : ℕ) (xs : List ℕ) → ((t : ℕ) → In t (x ∷ xs) → M t) → ¬ IsFed (x ∷ xs)) where

@@ -31,11 +31,7 @@ module _ (name : ℕ → ℕ) where
 
   module _ (Node : ℕ → Type 0) (ascend : NamesAscend Node name) where
     one_name : (a b : ℕ) → Node a → Node b → name a ≡ name b → a ≡ b
-    one_name a b n m e = elim (cases_order a b) [
-      | inl same ↦ same
-      | inr (inl less) ↦ let l = ascend a b n m less in absurd (omega arith)
-      | inr (inr more) ↦ let l = ascend b a m n more in absurd (omega arith)
-    ]
+    one_name a b n m e = grind (arith, cases_order)
 
     abbrev AreNodes : List ℕ → Type 0
     AreNodes xs = (a : ℕ) → In a xs → Node a

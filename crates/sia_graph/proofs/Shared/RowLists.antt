@@ -53,7 +53,4 @@ pub block_targets : (h : List Event) (a : Accesses) (size b : ℕ) (row : List �
 block_targets h a size b row below is = record { block = λ l. is; member = λ i e. absurd (omega arith) }
 
 pub member_targets : (h : List Event) (a : Accesses) (size i : ℕ) (row : List ℕ) → AreMemberTargets h a size i row → AreTargetsOf h a size (node_of size i) row
-member_targets h a size i row is = record {
-  block = λ below. absurd (omega arith);
-  member = λ m e. let same : i ≡ m = omega arith in subst (λ k. AreMemberTargets h a size k row) same is;
-}
+member_targets h a size i row is = grind arith

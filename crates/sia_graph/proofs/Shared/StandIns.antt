@@ -1,12 +1,11 @@
 -- Narrow edges settle what all edges settle: by blocks, by names and by closures.
-use Rattle.std.proofs.Common.{ℕ, List, map, subst}
+use Rattle.std.proofs.Common.{ℕ, List, map, subst, arith, rules}
 use Rattle.std.specs.Prelude.{◌↔◌, Contains}
 use Rattle.sia_events.specs.declared.event.Event.{Event}
 use Rattle.sia_events.specs.Closures.{HaveSameClosure}
 use Rattle.sia_events.specs.Transactions.{IsCommitted}
 use Rattle.sia_parts.specs.declared.finding.Edge.{Edge}
 use Rattle.sia_parts.specs.declared.finding.Kind.{Kind}
-use Rattle.sia_parts.specs.declared.finding.Kind.TheVariants.{Ww, Wr, Rw}
 use Rattle.sia_parts.specs.Entries.{IsEdge, EdgeOfKind}
 use Rattle.sia_graph.specs.Orders.{Leads, IsKeepingOrder, IsLeastOrder}
 use Rattle.sia_graph.specs.Cycles.{IsStuckSet}
@@ -21,9 +20,7 @@ use Rattle.sia_graph.proofs.Shared.PartedLists.{contains_in}
 use Rattle.sia_graph.proofs.Shared.Renamed.{in_map, least_named, stuck_named}
 
 by_kind : (h : List Event) (kind : Kind) (t u k : ℕ) → EdgeOfKind h kind t u k → IsCommitted h u
-by_kind h Ww t u k e = (e.2.1, e.2.3)
-by_kind h Wr t u k e = e.2
-by_kind h Rw t u k e = e.2.1
+by_kind h kind t u k p = grind arith
 
 edge_into : (h : List Event) (t u : ℕ) → Leads (IsEdge h) t u → IsCommitted h u
 edge_into h t u w = subst (λ x. IsCommitted h x) w.3 (by_kind h w.0.kind w.0.src w.0.dst w.0.key w.1)
@@ -76,10 +73,4 @@ pub of_history : (h : List Event) (floor : ℕ) (ids : List ℕ) (HasEntry : Edg
 of_history h floor ids HasEntry name stand = record { blocks = stand.blocks; ascend = stand.ascend; named = stand.named; reach = stand.reach; into = edge_into h }
 
 pub stand_in_holds : (h : List Event) → StandInLaw h
-stand_in_holds h floor ids edges name stand =
-    let for = of_history h floor ids (Contains edges) name stand in
-    record {
-      least = least (IsCommitted h) (IsEdge h) floor ids (Contains edges) name for;
-      stuck = stuck (IsCommitted h) (IsEdge h) floor ids (Contains edges) name for;
-      none_keeps = none_keeps (IsCommitted h) (IsEdge h) floor ids (Contains edges) name for;
-    }
+stand_in_holds h floor ids edges name stand = search (rules, arith, of_history, least, stuck, none_keeps)

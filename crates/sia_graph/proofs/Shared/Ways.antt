@@ -1,5 +1,5 @@
 -- Ways along a relation, by their lengths.
-use Rattle.std.proofs.Common.{◌↔◌, ℕ, zero, suc}
+use Rattle.std.proofs.Common.{◌↔◌, ℕ, zero, suc, arith}
 use Rattle.sia_events.specs.Closures.{LeadsInSteps, step, steps, HaveSameClosure}
 use Rattle.sia_events.proofs.OfLaws.Closures.{leads_both}
 
@@ -33,7 +33,4 @@ module _ (R : ℕ → ℕ → Type 0) where
 
 -- relations with one closure have the same ways
 pub same_ways : (R S : ℕ → ℕ → Type 0) → HaveSameClosure R S → SameWays R S
-same_ways R S same t u = (
-  λ way. reached S ((same t u).0 (led R way.0 t u way.1)),
-  λ way. reached R ((same t u).1 (led S way.0 t u way.1)),
-)
+same_ways R S same t u = grind (arith, reached, led)

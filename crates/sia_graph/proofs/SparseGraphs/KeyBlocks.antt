@@ -1,7 +1,7 @@
 -- Blocks of keys: which are over a key, and what a loop knows that goes up from the leaves.
-use Rattle.std.proofs.Common.{◌≡◌, ◌⊎◌, inl, inr, ℕ, zero, suc, ◌+◌, ◌-◌, ◌*◌, ◌/◌, ◌%◌, ◌^◌, ◌<◌, ◌≤◌, List, refl, ap, sym, ◌∙◌, subst, arith}
+use Rattle.std.proofs.Common.{◌≡◌, ◌⊎◌, inl, inr, ℕ, zero, suc, ◌+◌, ◌-◌, ◌*◌, ◌/◌, ◌%◌, ◌^◌, ◌<◌, ◌≤◌, List, refl, ap, sym, ◌∙◌, subst, arith, rules}
 use Rattle.std.specs.Prelude.{◌↔◌, Contains}
-use Rattle.std.proofs.Math.Nat.{lt_of_mul-lt-mul_right, mul_assoc, mul_comm, mul-le-mul_left, mul-le-mul_right, pow-le-pow_right, pow-succ'}
+use Rattle.std.proofs.Math.Nat.{lt_of_mul-lt-mul_right, mul_assoc, mul-le-mul_left, mul-le-mul_right, pow-le-pow_right, pow-succ'}
 use Rattle.std.proofs.lemmas.Bool.{cases_lt}
 use Rattle.sia_graph.specs.KeyBlocks.{IsOver, IsUnderSome}
 
@@ -15,10 +15,7 @@ some_power (suc e) = let h = some_power e in let p = pow-succ' 2 e in omega arit
 
 -- one block of each height is over a leaf
 pub one_block : (b c m x : ℕ) → b * m ≤ x → x < (b + 1) * m → c * m ≤ x → x < (c + 1) * m → b ≡ c
-one_block b c m x b_low b_high c_low c_high =
-    let up : b < c + 1 = lt_of_mul-lt-mul_right m (let d : b * m < (c + 1) * m = omega arith in d) in
-    let down : c < b + 1 = lt_of_mul-lt-mul_right m (let d : c * m < (b + 1) * m = omega arith in d) in
-    omega arith
+one_block b c m x b_low b_high c_low c_high = grind (arith, lt_of_mul-lt-mul_right)
 
 -- it is half the one below it
 pub half_over : (b e x : ℕ) → b * 2 ^ e ≤ x → x < (b + 1) * 2 ^ e → (b / 2 * 2 ^ (e + 1) ≤ x) × (x < (b / 2 + 1) * 2 ^ (e + 1))
@@ -33,13 +30,7 @@ half_over b e x from to =
 
 -- those over a leaf are lower than a height at which block 0 is over it
 pub lower_over : (b n top x : ℕ) → x < (0 + 1) * 2 ^ top → b * 2 ^ n ≤ x → 0 < b → n < top
-lower_over b n top x to low some = elim (cases_lt n top) [
-  | inl less ↦ less
-  | inr more ↦
-      let up : 2 ^ top ≤ 2 ^ n = pow-le-pow_right (omega arith) more in
-      let once = mul-le-mul_right (2 ^ n) (let h : 1 ≤ b = omega arith in h) in
-      absurd (omega arith)
-]
+lower_over b n top x to low some = grind (arith, cases_lt, pow-le-pow_right, mul-le-mul_right)
 
 -- a greater power is at least twice as great
 greater_power : (d e : ℕ) → 2 * 2 ^ e ≤ 2 ^ (e + 1 + d)
@@ -47,7 +38,6 @@ greater_power zero e = let s : e + 1 + 0 ≡ e + 1 = omega arith in let p = ap (
 greater_power (suc d) e =
     let s : e + 1 + suc d ≡ suc (e + 1 + d) = omega arith in
     let p = ap (λ n. 2 ^ n) s in
-    let q = pow-succ' 2 (e + 1 + d) in
     let h = greater_power d e in
     omega arith
 
@@ -57,7 +47,6 @@ module _ (size key : ℕ) (is_key : key < size) (b e : ℕ) (low : size ≤ b * 
       let s : n ≡ e + 1 + (n - (e + 1)) = omega arith in
       let g : 2 * 2 ^ e ≤ 2 ^ n = subst (λ m. 2 * 2 ^ e ≤ 2 ^ m) (sym s) (greater_power (n - (e + 1)) e) in
       let p = mul-le-mul_left b g in
-      let q : b * (2 * 2 ^ e) ≡ 2 * (b * 2 ^ e) = sym (mul_assoc b 2 (2 ^ e)) ∙ ap (λ m. m * 2 ^ e) (mul_comm b 2) ∙ mul_assoc 2 b (2 ^ e) in
       omega arith
 
   not_lower : (n : ℕ) → n < e → size + key < (b + 1) * 2 ^ n → ⊥
@@ -65,18 +54,11 @@ module _ (size key : ℕ) (is_key : key < size) (b e : ℕ) (low : size ≤ b * 
       let s : e ≡ n + 1 + (e - (n + 1)) = omega arith in
       let g : 2 * 2 ^ n ≤ 2 ^ e = subst (λ m. 2 * 2 ^ n ≤ 2 ^ m) (sym s) (greater_power (e - (n + 1)) n) in
       let p = mul-le-mul_left (b + 1) g in
-      let q : (b + 1) * (2 * 2 ^ n) ≡ 2 * ((b + 1) * 2 ^ n) = sym (mul_assoc (b + 1) 2 (2 ^ n)) ∙ ap (λ m. m * 2 ^ n) (mul_comm (b + 1) 2) ∙ mul_assoc 2 (b + 1) (2 ^ n) in
       omega arith
 
   -- a block that is over leaves alone is over these and no others
   pub over_here : IsOver size b key → (b * 2 ^ e ≤ size + key) × (size + key < (b + 1) * 2 ^ e)
-  over_here over = elim (cases_lt over.0 e) [
-    | inl l ↦ absurd (not_lower over.0 l over.2)
-    | inr m ↦ elim (cases_lt e over.0) [
-      | inl l ↦ absurd (not_higher over.0 l over.1)
-      | inr n ↦ let s : over.0 ≡ e = omega arith in subst (λ m. (b * 2 ^ m ≤ size + key) × (size + key < (b + 1) * 2 ^ m)) s (over.1, over.2)
-    ]
-  ]
+  over_here over = grind (arith, cases_lt, not_lower, not_higher)
 
 -- what is known while the blocks of a stretch are added, each time of one height more: keys under a new block, and those under
 -- the blocks from low to before high, are those of the stretch
@@ -164,7 +146,6 @@ module _ (size key : ℕ) (is_key : key < size) (low high e : ℕ) (starts : siz
 
   from_higher : ((low + 1) / 2 * 2 ^ (e + 1) ≤ size + key) × (size + key < high / 2 * 2 ^ (e + 1)) → (low * 2 ^ e ≤ size + key) × (size + key < high * 2 ^ e)
   from_higher w =
-      let a = low_grows size low high e starts ends l in
       let b = high_shrinks size low high e starts ends l in
       let c : low * 2 ^ e ≤ (low + 1) / 2 * 2 ^ (e + 1) = elim (low_step size low high e starts ends l) [ inl o ↦ let f = o.1 in omega arith | inr o ↦ let f = o.1 in omega arith ] in
       let d : high / 2 * 2 ^ (e + 1) ≤ high * 2 ^ e = elim (high_step size low high e starts ends l) [ inl o ↦ let f = o.1 in omega arith | inr o ↦ let f = o.1 in omega arith ] in
@@ -181,10 +162,7 @@ module _ (size key : ℕ) (is_key : key < size) (low high e : ℕ) (starts : siz
 
   below_high : (low + 1) / 2 * 2 ^ (e + 1) ≤ size + key → size + key < high * 2 ^ e
       → IsUnderSome size new key ⊎ (((low + 1) / 2 * 2 ^ (e + 1) ≤ size + key) × (size + key < high / 2 * 2 ^ (e + 1)))
-  below_high a b = elim (high_step size low high e starts ends l) [
-    | inl o ↦ elim (cases_lt (size + key) ((high - 1) * 2 ^ e)) [ inl f ↦ let h = o.1 in inr (a, omega arith) | inr f ↦ inl (is_high f b o.0) ]
-    | inr o ↦ let h = o.1 in inr (a, omega arith)
-  ]
+  below_high a b = grind (arith, high_step, cases_lt, is_high)
 
   to_higher : (low * 2 ^ e ≤ size + key) × (size + key < high * 2 ^ e)
       → IsUnderSome size new key ⊎ (((low + 1) / 2 * 2 ^ (e + 1) ≤ size + key) × (size + key < high / 2 * 2 ^ (e + 1)))
@@ -195,21 +173,11 @@ module _ (size key : ℕ) (is_key : key < size) (low high e : ℕ) (starts : siz
 
   over_higher : (IsUnderSome size new key ⊎ (((low + 1) / 2 * 2 ^ (e + 1) ≤ size + key) × (size + key < high / 2 * 2 ^ (e + 1))))
       ↔ (IsUnderSome size blocks key ⊎ ((low * 2 ^ e ≤ size + key) × (size + key < high * 2 ^ e)))
-  over_higher = (
-    (λ w. elim w [ inl u ↦ from_new u | inr h ↦ inr (from_higher h) ]),
-    (λ w. elim w [ inl u ↦ inl (kept u) | inr h ↦ to_higher h ]),
-  )
+  over_higher = search (rules, arith, from_new, from_higher, kept, to_higher)
 
 -- the blocks that are added are none that there aren't
 are_blocks : (size low high e : ℕ) → size ≤ low * 2 ^ e → high * 2 ^ e ≤ 2 * size → (b : ℕ) → low ≤ b → b < high → (0 < b) × (b < 2 * size)
-are_blocks size low high e starts ends b from to =
-    let p = some_power e in
-    let h : high * 1 ≤ high * 2 ^ e = mul-le-mul_left high (omega arith) in
-    let some : 0 < low = elim (cases_lt 0 low) [
-      | inl l ↦ l
-      | inr none ↦ let z : low ≡ 0 = omega arith in let s = subst (λ m. size ≤ m * 2 ^ e) z starts in omega arith
-    ] in
-    (omega arith, omega arith)
+are_blocks size low high e starts ends b from to = grind (arith, some_power, mul-le-mul_left, cases_lt)
 
 pub climb_more : (size from to : ℕ) (old blocks : List ℕ) (low high : ℕ) → IsClimbing size from to old blocks low high → low < high
     → (mid new : List ℕ) → ((b : ℕ) → Contains mid b ↔ (Contains blocks b ⊎ ((b ≡ low) × (low % 2 ≡ 1))))

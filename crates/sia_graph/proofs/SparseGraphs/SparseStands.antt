@@ -41,7 +41,7 @@ use Rattle.sia_graph.specs.SparseGraphs.{HasNodes, IsBlockStep, IsFollowed, IsSp
 use Rattle.sia_graph.specs.StandIns.{LeadsByName}
 use Rattle.sia_graph.specs.Taken.{node_list}
 use Rattle.sia_graph.proofs.Shared.AscendingIds.{ids_less}
-use Rattle.sia_graph.proofs.SparseGraphs.KeyBlocks.{doubled, some_power}
+use Rattle.sia_graph.proofs.SparseGraphs.KeyBlocks.{doubled}
 use Rattle.sia_graph.proofs.Shared.Numbered.{commits_at, is_committed_at, number_of, one_next, txn_number}
 use Rattle.sia_graph.proofs.Shared.PositionEdges.{rw_from_look, wr_from_look}
 use Rattle.sia_graph.proofs.Shared.Ranges.{range_is}
@@ -52,7 +52,6 @@ use Rattle.sia_parts.proofs.EdgeRows.PositionOrder.{one_version as one_at, posit
 over_half : (size b c j : ℕ) → 2 * b ≤ c → c ≤ 2 * b + 1 → IsOver size c j → IsOver size b j
 over_half size b c j low high over =
     let e = over.0 in
-    let x = 2 ^ e in
     let p = mul-le-mul_right (2 ^ e) low in
     let q : (c + 1) * 2 ^ e ≤ (2 * (b + 1)) * 2 ^ e = mul-le-mul_right (2 ^ e) (omega arith) in
     let l : b * 2 ^ (e + 1) ≡ (2 * b) * 2 ^ e = ap (λ y. b * y) (doubled e) ∙ sym (mul_assoc b 2 (2 ^ e)) ∙ ap (λ y. y * 2 ^ e) (mul_comm b 2) in
@@ -65,13 +64,7 @@ over_leaf size b j at = (0, (let z : b * 2 ^ 0 ≡ b = omega arith in omega arit
 
 -- each list is one of the first nodes
 listed : (lists : List (List ℕ)) (n x y : ℕ) → length lists ≡ n → Contains (get_or lists x []) y → x < n
-listed lists n x y long c = elim (cases_lt x n) [
-  | inl less ↦ less
-  | inr past ↦
-      let none = subst (λ (l : List ℕ). Contains l y) (get_or_past lists x [] (let e = long in omega arith)) c in
-      let l = none.1 in
-      absurd (omega arith)
-]
+listed lists n x y long c = grind (arith, cases_lt, get_or_past)
 
 module _ (h : List Event) (wf : IsWellFormed h) (a : Accesses) (are : AreAccesses h (λ _. ⊤) a) (txns : List ℕ) (txns_are : ListsAscending (IsCommitted h) txns) (versions : List KeyVersion) (versions_are : AreAllVersions h versions) where
   -- who follows has an edge from the one that it follows
@@ -269,7 +262,6 @@ module _ (h : List Event) (wf : IsWellFormed h) (a : Accesses) (are : AreAccesse
           | inl r ↦
               let look = r.2 in
               let v = look.version in
-              let e = v.3 in
               let m = number_of h txns txns_are t (c, n.1.1) in
               let made = commits_at h r.1 v.0 v.1 (omega arith) in
               let same : t ≡ v.0.txn = one_committer h t v.0.txn v.0.commit (subst (CommitsAt h t) (sym v.3) n.1.1) made.1 in
@@ -293,14 +285,10 @@ module _ (h : List Event) (wf : IsWellFormed h) (a : Accesses) (are : AreAccesse
         let same : size + j ≡ b = let x : b * 2 ^ 0 ≡ b = omega arith in let y : (b + 1) * 2 ^ 0 ≡ b + 1 = omega arith in omega arith in
         (0, subst (λ x. Step x u) same leaf)
     way_down (suc e) b j u some below low high leaf =
-        let x = 2 ^ e in
         let double = pow-succ' 2 e in
-        let l : b * 2 ^ suc e ≡ (2 * b) * 2 ^ e = ap (λ y. b * y) double ∙ sym (mul_assoc b 2 (2 ^ e)) ∙ ap (λ y. y * 2 ^ e) (mul_comm b 2) in
         let r : (b + 1) * 2 ^ suc e ≡ (2 * b + 1 + 1) * 2 ^ e =
         ap (λ y. (b + 1) * y) double ∙ sym (mul_assoc (b + 1) 2 (2 ^ e)) ∙ ap (λ y. y * 2 ^ e) (mul_comm (b + 1) 2 ∙ (let z : 2 * (b + 1) ≡ 2 * b + 1 + 1 = omega arith in z)) in
-        let power = some_power e in
         let least : (2 * b) * 1 ≤ (2 * b) * 2 ^ e = mul-le-mul_left (2 * b) (omega arith) in
-        let more : (2 * b + 1) * 1 ≤ (2 * b + 1) * 2 ^ e = mul-le-mul_left (2 * b + 1) (omega arith) in
         elim (cases_lt (size + j) ((2 * b + 1) * 2 ^ e)) [
           | inl left ↦
               let rest = way_down e (2 * b) j u (omega arith) below (omega arith) left leaf in
@@ -321,7 +309,6 @@ module _ (h : List Event) (wf : IsWellFormed h) (a : Accesses) (are : AreAccesse
         let x = node_of size i in
         let targets = (has.targets x (below_all i t at)).member i refl in
         let b = (targets.over j below).1 (missed, own) in
-        let power = some_power b.2.0 in
         let up : b.0 * 1 ≤ b.0 * 2 ^ b.2.0 = mul-le-mul_left b.0 (omega arith) in
         let block : b.0 < floor = let l = b.2.1 in omega arith in
         let leaf : Step (size + j) (node_of size m.0) =
@@ -360,22 +347,10 @@ module _ (h : List Event) (wf : IsWellFormed h) (a : Accesses) (are : AreAccesse
     by_edge t u b = subst (λ x. HasEdge h x u) b.2 (subst (λ x. HasEdge h (name b.0) x) b.3 (through_edge b.0 b.1 b.4))
 
     joined : (x y : ℕ) → Ends x y → (x < floor + length txns) × (y < floor + length txns) × (x ≢ y)
-    joined x y (inl m) = ((let l = below_all m.0 m.2 m.4 in let e = m.8 in omega arith), (let l = below_all m.1 m.3 m.5 in let e = m.9 in omega arith), (λ same. m.7 (let e = m.8 in let f = m.9 in omega arith)))
-    joined x y (inr (inl (block, inl half))) =
-        let l = half.1 in
-        let some = half.0 in
-        elim half.2 [ inl e ↦ (omega arith, omega arith, (λ same. omega arith)) | inr e ↦ (omega arith, omega arith, (λ same. omega arith)) ]
-    joined x y (inr (inl (block, inr leaf))) =
-        let l = below_all leaf.1 leaf.4.1 leaf.4.4 in
-        let e = leaf.5 in
-        (omega arith, omega arith, (λ same. omega arith))
-    joined x y (inr (inr p)) = let l = below_all p.0 p.1 p.2 in let e = p.3 in let b = p.4 in (omega arith, omega arith, (λ same. omega arith))
+    joined x y p = grind (arith, below_all)
 
     ascending : (x y : ℕ) → Ends x y → x < floor → y < floor → x < y
-    ascending x y (inl m) first second = let e = m.8 in absurd (omega arith)
-    ascending x y (inr (inl (block, inl half))) first second = let some = half.0 in elim half.2 [ inl e ↦ omega arith | inr e ↦ omega arith ]
-    ascending x y (inr (inl (block, inr leaf))) first second = let e = leaf.5 in absurd (omega arith)
-    ascending x y (inr (inr p)) first second = let e = p.3 in absurd (omega arith)
+    ascending x y p q r = grind arith
 
     has_by_kind : (t u : ℕ) → Leads (IsEdge h) t u → HasEdge h t u
     has_by_kind t u leads = let e = leads.0 in subst (λ x. HasEdge h x u) leads.2 (subst (λ x. HasEdge h e.src x) leads.3 (of_kind e.kind leads.1))
@@ -408,10 +383,8 @@ module _ (h : List Event) (wf : IsWellFormed h) (a : Accesses) (are : AreAccesse
 
     node_within : (x : ℕ) → Contains (node_list size txns) x → x < floor + length txns
     node_within x c =
-        let l = c.1 in
         let e = range_is (2 * size + length txns) c.0 c.1 in
         let f = get_or_default (node_list size txns) c.0 0 x c.1 in
-        let g = c.2 in
         let m = long in
         omega arith
 
@@ -435,7 +408,6 @@ module _ (h : List Event) (wf : IsWellFormed h) (a : Accesses) (are : AreAccesse
               (node_of size i.0, (is_node (node_of size i.0) (below_all i.0 t i.1), omega arith), named i.0 t i.1)),
           (λ w.
               let x = node_within w.0 w.1.0 in
-              let y = w.1.1 in
               let inside : w.0 - floor < length txns = omega arith in
               is_committed_at h (w.0 - floor) t (txns, txns_are, inside, w.2)),
         );

@@ -12,10 +12,7 @@ use Rattle.sia_graph.proofs.OnEvidence.JoinedMisses.{Holds}
 -- of so many keys a stretch holds those that it holds up to there
 pub held_below : (size from to low high : ℕ) → (low ≡ from) ⊎ (low ≡ size) → low ≤ from → low ≤ size → (high ≡ to) ⊎ (high ≡ size) → high ≤ to → high ≤ size
     → (j : ℕ) → j < size → ((low ≤ j) × (j < high)) ↔ ((from ≤ j) × (j < to))
-held_below size from to low high a first most b last least j l = (
-  (λ w. let x = w.0 in let y = w.1 in (elim a [ inl e ↦ omega arith | inr e ↦ absurd (omega arith) ], omega arith)),
-  (λ w. let x = w.0 in let y = w.1 in (omega arith, elim b [ inl e ↦ omega arith | inr e ↦ omega arith ])),
-)
+held_below size from to low high a first most b last least j l = grind arith
 
 -- the blocks are over the keys of the first n stretches
 pub record HasBlocksTo (size : ℕ) (stretches : List RangeMiss) (n : ℕ) (old blocks : List ℕ) : Type 0 where

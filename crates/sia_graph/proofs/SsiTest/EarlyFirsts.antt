@@ -1,5 +1,5 @@
 -- Firsts of dangerous structures by limits, where isolation is kept.
-use Rattle.std.proofs.Common.{◌≡◌, ◌≢◌, ◌⊎◌, inl, inr, true, false, Option, Some, None, ℕ, ◌+◌, ◌-◌, ◌<◌, ◌≤◌, List, [], ◌∷◌, ◌++◌, length, get_or, map, min, refl, ap, sym, subst, ◌∙◌, arith}
+use Rattle.std.proofs.Common.{◌≡◌, ◌≢◌, ◌⊎◌, inl, inr, true, false, Option, ℕ, ◌+◌, ◌-◌, ◌<◌, ◌≤◌, List, [], ◌∷◌, ◌++◌, length, get_or, map, min, refl, ap, sym, subst, ◌∙◌, arith}
 use Rattle.std.specs.Prelude.{◌↔◌, ⊤, MatchOption}
 use Rattle.std.specs.Option.{is_some}
 use Rattle.std.proofs.lemmas.Bool.{cases_lt}
@@ -35,8 +35,7 @@ use Rattle.sia_parts.proofs.EdgeRows.PositionOrder.{one_version as one_at}
 
 -- what is told of an option, by whether it is there
 pub there_or_not : {A : Type 0} (P : Type 0) (Q : A → Type 0) (o : Option A) → MatchOption o P Q → ((is_some o ≡ true) × (a : A) × Q a) ⊎ ((is_some o ≡ false) × P)
-there_or_not P Q None told = inr (refl, told)
-there_or_not P Q (Some a) told = inl (refl, a, told)
+there_or_not P Q o p = grind arith
 
 module _ (h : List Event) (wf : IsWellFormed h) where
   -- a version is followed up to a place exactly if the next one is committed there
@@ -76,13 +75,10 @@ module _ (h : List Event) (wf : IsWellFormed h) where
         let k = early.2.0 in
         let look = look_of_rw h wf k t early.0 early.2.1 in
         let one = one_commit h wf early.0 look.1 early.1 look.2.1 early.3 in
-        let le = early.4 in
-        let less = look.4 in
         elim (are.each t k look.0 early.0 look.3 look.2.0 tt) [
           | inl s ↦
               let l = s.2 in
               let v = l.version in
-              let e = v.3 in
               saw s.1 v.0 (subst (λ n. SawPosition a n s.1) (one_number h s.0 i t l.txn at) l.saw) v.1 (early.0, look.1, subst (λ n. CommitsVersion h n early.0 look.1) (sym v.2) look.2, omega arith, omega arith)
           | inr p ↦ missed p.2.key.0 k (subst (λ n. Missed a n p.2.key.0) (one_number h p.1 i t p.2.txn at) p.2.key.2) p.2.key.1 (early.0, look.1, look.2, omega arith)
         ]
@@ -112,7 +108,6 @@ module _ (h : List Event) (wf : IsWellFormed h) where
               | inr after ↦
                   let z = one_commit h wf u d after.0 ends after.2 in
                   let q = one_commit h wf r (get_or commits n.0 0) after.1 by after.3 in
-                  let m = after.4 in
                   omega arith
             ] in
             let l = (entering d positive).1 (get_or commits n.0 0, (n.0, r, n.1, edge, refl), le) in
@@ -151,11 +146,7 @@ commits_lived h txns are lifetimes lived commits is i t at =
 -- the commit of one's lifetime
 pub commit_lived : (h : List Event) (lifetimes : List Lifetime) → ((txns : List ℕ) → ListsAscending (IsCommitted h) txns → AreLifetimes h txns lifetimes) → (i t : ℕ) → IsCommittedAt h i t
     → (i < length lifetimes) × ((d : Lifetime) → CommitsAt h t (get_or lifetimes i d).commit)
-commit_lived h lifetimes lived i t at =
-    let are = lived at.0 at.1 in
-    let below = at.2 in
-    let long = are.long in
-    (omega arith, λ d. subst (λ u. CommitsAt h u (get_or lifetimes i d).commit) at.3 (are.each i d below).1)
+commit_lived h lifetimes lived i t at = grind arith
 
 -- the values of so many numbers, one more each time
 pub values_none : (place : ℕ) (lifetimes : List Lifetime) (values : List ℕ) → values ≡ [] → AreValuesFrom place lifetimes values 0
@@ -163,25 +154,4 @@ values_none place lifetimes values empty = record { long = ap (length {A = ℕ})
 
 pub values_more : (place : ℕ) (lifetimes : List Lifetime) (values new : List ℕ) (n value : ℕ) (x : Lifetime) → n < length lifetimes → AreValuesFrom place lifetimes values n → new ≡ values ++ value ∷ []
     → (place ≤ (get_or lifetimes n x).commit → value ≡ length lifetimes - n) → ((get_or lifetimes n x).commit < place → value ≡ 0) → AreValuesFrom place lifetimes new (n + 1)
-values_more place lifetimes values new n value x below are is late early = record {
-  long = ap (length {A = ℕ}) is ∙ length-append values (value ∷ []) ∙ (let l = are.long in omega arith);
-  late = λ i d inside le. elim (cases_lt i n) [
-    | inl less ↦ ap (λ (l : List ℕ). get_or l i 0) is ∙ get_or_append_left values (value ∷ []) 0 i (let l = are.long in omega arith) ∙ are.late i d less le
-    | inr more ↦
-        let same : i ≡ n = omega arith in
-        let at = ap (λ (y : Lifetime). y.commit) (get_or_default lifetimes n x d below) in
-        let moved = ap (λ k. (get_or lifetimes k d).commit) same in
-        here i same ∙ late (omega arith) ∙ (let e : length lifetimes - n ≡ length lifetimes - i = omega arith in e)
-  ];
-  early = λ i d inside less. elim (cases_lt i n) [
-    | inl under ↦ ap (λ (l : List ℕ). get_or l i 0) is ∙ get_or_append_left values (value ∷ []) 0 i (let l = are.long in omega arith) ∙ are.early i d under less
-    | inr more ↦
-        let same : i ≡ n = omega arith in
-        let at = ap (λ (y : Lifetime). y.commit) (get_or_default lifetimes n x d below) in
-        let moved = ap (λ k. (get_or lifetimes k d).commit) same in
-        here i same ∙ early (omega arith)
-  ];
-}
-  where
-    here : (i : ℕ) → i ≡ n → get_or new i 0 ≡ value
-    here i same = ap (λ k. get_or new k 0) same ∙ ap (λ (l : List ℕ). get_or l n 0) is ∙ get_or_push values value 0 n are.long
+values_more place lifetimes values new n value x below are is late early = grind (arith, length-append, cases_lt, get_or_append_left, get_or_default, get_or_push)

@@ -47,8 +47,6 @@ module _ (h : List Event) (txns : List ℕ) (are : ListsAscending (IsCommitted h
         let j = number_of h txns are u (committed u has) in
         let n = txn_number h txns are i t at in
         let m = txn_number h txns are j.0 u j.1 in
-        let a = n.1 in
-        let b = m.1 in
         elim (cases_lt j.0 i) [
           | inl less ↦ absurd (none j.0 u less j.1 has)
           | inr more ↦ let up = ids_no_less txns (increasing txns are.ascending) i j.0 more m.0 in omega arith
@@ -76,8 +74,6 @@ module _ (h : List Event) (txns : List ℕ) (are : ListsAscending (IsCommitted h
         reached_first u = (
           (λ w.
               let e = w.4 in
-              let v = e.4 in
-              let p = w.5 in
               let same : e.0 ≡ pivot = elim (cases_eq e.0 pivot) [ inl s ↦ s | inr other ↦ (let z = others e.0 other in absurd (omega arith)) ] in
               let edge = subst (λ r. HasRwEdge h r u) (one_txn_at h pivot e.1 t (subst (λ n. IsCommittedAt h n e.1) same e.2) at) e.3 in
               (first_early h wf kept t limit is u).1 (w.0, edge, w.2, w.3)),
@@ -101,7 +97,6 @@ module _ (h : List Event) (txns : List ℕ) (are : ListsAscending (IsCommitted h
             | inr after ↦
                 let x = one_commit h wf last place after.0 ends after.2 in
                 let y = one_commit h wf u d after.1 at after.3 in
-                let l = after.4 in
                 omega arith
           ],
         )
@@ -139,10 +134,8 @@ module _ (h : List Event) (txns : List ℕ) (are : ListsAscending (IsCommitted h
             let positive : 0 < greatest = omega arith in
             let w = (entering greatest positive).0 (omega arith) in
             let e = w.1 in
-            let most = w.2 in
             let at = ends_at e.0 e.1 e.2 in
             let below = inside e.0 e.1 e.2 in
-            let is = e.4 in
             let le : w.0 ≤ greatest = (entering w.0 (omega arith)).1 (w.0, e, omega arith) in
             elim (cases_lt (get_or lifetimes e.0 none).commit place) [
               | inl early ↦ let z = from.early e.0 none below early in absurd (omega arith)
@@ -155,7 +148,6 @@ module _ (h : List Event) (txns : List ℕ) (are : ListsAscending (IsCommitted h
         pub first_least : (n : ℕ) → n ≡ length lifetimes - greatest → (u : ℕ) × IsCommittedAt h n u × IsLeast (MayBeFirst h t last) u
         first_least n is =
             let w = holder in
-            let e = w.4 in
             let below = inside w.0 w.1 w.2 in
             let same : w.0 ≡ n = omega arith in (
               w.1,

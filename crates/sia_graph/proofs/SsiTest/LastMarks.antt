@@ -49,7 +49,6 @@ module _ (h : List Event) where
   same_key q v w at other some =
       let p = zero_before (q + 1) w other some in
       let zero : KeyVersion = record { key = w.key; commit = 0; txn = 0 } in
-      let l = p.1 in
       let most = keys_most q (q + 1) v w at other (omega arith) in
       elim (cases_lt p.0 q) [
         | inl less ↦ let least = keys_most p.0 q zero v p.2 at less in omega arith

@@ -42,7 +42,6 @@ module _ (h : List Event) (wf : IsWellFormed h) (kept : IsolationKept h) where
         | inl same ↦ let one = one_commit h wf t d e made.1 (subst (λ x. CommitsAt h x e) (sym same) other.1) in absurd (omega arith)
         | inr differ ↦
             let life = lifetime_of h wf t (d, made.1) in
-            let ends = one_commit h wf t life.commit d life.commits made.1 in
             elim (cases_lt life.start e) [
               | inr sees ↦ absurd (rw_unseen h wf kept t u k (rw_from_look h wf k t u c e differ other look after) (life.start, e, life.starts, other.1, sees))
               | inl unseen ↦ absurd (kept.writes k u t (other.0, made.0, (life.start, e, life.starts, other.1, unseen), (e, d, other.1, made.1, before)))
@@ -85,7 +84,6 @@ module _ (h : List Event) (wf : IsWellFormed h) (kept : IsolationKept h) where
               let positive : 0 < w.commit = subst (λ (x : KeyVersion). 0 < x.commit) second own.5 in
               let makes = commits_at h e w there positive in
               let c = one_commit h wf w.txn next.0 w.commit next.1.1 makes.1 in
-              let l = next.2 in
               let is : r ≡ w.txn = one_txn_at h i r w.txn num (subst (λ (x : KeyVersion). IsCommittedAt h i x.txn) second own.7) in
               let other : r ≢ v.txn = λ same. let early = earlier in let z = one_commit h wf v.txn w.commit v.commit (subst (λ t. CommitsAt h t w.commit) (sym is ∙ same) makes.1) made.1 in let no : ⊥ = omega arith in no in
               rw_from_look h wf v.key r v.txn u.0.commit v.commit other made (subst (λ k. Looked h r k u.0.commit) ukey u.2) (let early = earlier in omega arith)
@@ -135,18 +133,15 @@ module _ (h : List Event) (wf : IsWellFormed h) (kept : IsolationKept h) where
           let look = look_of_rw h wf v.key r v.txn edge in
           let by = commits_at h q v at some in
           let d = one_commit h wf v.txn look.1 v.commit look.2.1 by.1 in
-          let less = look.4 in
           let number = (txn_number h txns txns_are i r num).0 in
           let by_stand = λ (p : ℕ) (u : KeyVersion) (there : IsAtPosition h p u) (key : u.key ≡ v.key) (early : u.commit < v.commit) (l : IsLookAt h a i p).
           let e = seen_are.has i r p number num l in
           let w = stands_before q v at some i r p e.0 u num edge.0 there key early e.1 in
-          let mark = e.2 in
           (last.each q v at some x positive).1 (inl (e.0, w.0, w.1, w.2, w.3, (let t : x ≤ get_or seen e.0 0 = omega arith in t))) in
           elim (are.each r v.key look.0 v.txn look.3 by.0 tt) [
             | inl s ↦
                 let l = s.2 in
                 let u = l.version in
-                let c = u.3 in
                 by_stand s.1 u.0 u.1 u.2 (omega arith) (inl (subst (λ n. SawPosition a n s.1) (one_number h s.0 i r l.txn num) l.saw))
             | inr p ↦
                 let j = p.2.key.0 in

@@ -52,7 +52,6 @@ module _ (h : List Event) (a : Accesses) (values : List ℕ) (n t c : ℕ) (at :
             let same : w.0 ≡ n = let l = w.2 in omega arith in
             let e : get_or values w.0 0 ≡ c = ap (λ k. get_or values k 0) same ∙ value in
             let u = (over j below).1 (inr ((held j).1 (subst (λ k. IsPassed h a k j) same w.4))) in
-            let l = w.5 in
             (u.0, u.2, elim (within u.0 u.1) [ inl none ↦ (let b = none.1 in absurd (omega arith)) | inr b ↦ b.0 ], (raised u.0 x).1 (inr (u.1, omega arith)))
       ]),
     );
@@ -67,13 +66,7 @@ pub record IsRising (size leaf : ℕ) (most : List ℕ) (block top : ℕ) : Type
   pub each : (x : ℕ) → 0 < x → (x ≤ top) ↔ ((b : ℕ) × (e : ℕ) × (e < height) × (b * 2 ^ e ≤ leaf) × (leaf < (b + 1) * 2 ^ e) × (0 < b) × (x ≤ get_or most b 0))
 
 pub rises_from : (size leaf : ℕ) (most : List ℕ) → IsRising size leaf most leaf 0
-rises_from size leaf most = record {
-  height = 0;
-  low = omega arith;
-  high = omega arith;
-  within = omega arith;
-  each = λ x some. ((λ l. absurd (omega arith)), (λ w. let l = w.2 in absurd (omega arith)));
-}
+rises_from size leaf most = grind arith
 
 pub rises_on : (size leaf : ℕ) (most : List ℕ) (block top next : ℕ) → IsRising size leaf most block top → 0 < block → top ≤ next → get_or most block 0 ≤ next → (next ≡ top) ⊎ (next ≡ get_or most block 0)
     → IsRising size leaf most (block / 2) next
@@ -113,28 +106,14 @@ risen size key most top rising x some = (
 
 -- without blocks there are no marks
 pub none_marked : (size key : ℕ) (most : List ℕ) → length most ≡ 0 → (x : ℕ) → 0 < x → (x ≤ 0) ↔ IsMarkedOver size most key x
-none_marked size key most long x some = (
-  (λ l. absurd (omega arith)),
-  (λ m. let none = get_or_past most m.0 0 (omega arith) in let l = m.3 in omega arith),
-)
+none_marked size key most long x some = grind (arith, get_or_past)
 
 -- at first there is no mark
 pub none_there : (n e : ℕ) (table : List ℕ) → table ≡ replicate n 0 → get_or table e 0 ≡ 0
-none_there n e table is = ap (λ (l : List ℕ). get_or l e 0) is ∙ by_place (cases_lt e n)
-  where
-    by_place : (e < n) ⊎ (n ≤ e) → ◌≡◌ {A = ℕ} (get_or (replicate n 0) e 0) 0
-    by_place (inl less) = get_or-replicate n e 0 0 less
-    by_place (inr past) = get_or_past (replicate n 0) e 0 (subst (λ m. m ≤ e) (sym (length-replicate n 0)) past)
+none_there n e table is = grind (arith, cases_lt, replicate, get_or-replicate, get_or_past, length-replicate)
 
 pub seen_unmarked : (h : List Event) (a : Accesses) (values : List ℕ) (n : ℕ) (seen : List ℕ) → ArePositions h n → seen ≡ replicate n 0 → AreSeenMarks h a values 0 seen
-seen_unmarked h a values n seen positions is = record {
-  long = subst (ArePositions h) (sym (ap (length {A = ℕ}) is ∙ length-replicate n 0)) positions;
-  sound = λ e x some le. absurd (let z = none_there n e seen is in omega arith);
-  has = λ i t p below. absurd (omega arith);
-}
+seen_unmarked h a values n seen positions is = grind (arith, length-replicate, none_there)
 
 pub passed_unmarked : (h : List Event) (a : Accesses) (values : List ℕ) (size n : ℕ) (most : List ℕ) → n ≡ 2 * size → most ≡ replicate n 0 → ArePassedMarks h a values size 0 most
-passed_unmarked h a values size n most two is = record {
-  long = ap (length {A = ℕ}) is ∙ length-replicate n 0 ∙ two;
-  each = λ j x below some. ((λ m. absurd (let z = none_there n m.0 most is in let l = m.3 in omega arith)), (λ w. absurd (let l = w.2 in omega arith)));
-}
+passed_unmarked h a values size n most two is = grind (arith, length-replicate, none_there)

@@ -1,5 +1,5 @@
 -- Numbers that are raised at places.
-use Rattle.std.proofs.Common.{◌≡◌, ◌⊎◌, inl, inr, ℕ, ◌+◌, ◌<◌, ◌≤◌, List, [], ◌∷◌, ◌++◌, length, max, get_or, set, take, refl, ap, sym, subst, ◌∙◌, arith}
+use Rattle.std.proofs.Common.{◌≡◌, ◌⊎◌, inl, inr, ℕ, ◌+◌, ◌<◌, ◌≤◌, List, [], ◌∷◌, ◌++◌, length, max, get_or, set, take, refl, sym, subst, ◌∙◌, arith}
 use Rattle.std.specs.Prelude.{◌↔◌, Contains}
 use Rattle.std.proofs.lemmas.Bool.{cases_eq, cases_lt}
 use Rattle.std.proofs.lemmas.List.{get_or-set_other, get_or-set_same, length-set, take_all, take_more}
@@ -7,17 +7,7 @@ use Rattle.std.proofs.lemmas.List.Elements.{Contains-append_left, Contains-push,
 
 -- one number
 pub raised_at : (table : List ℕ) (at to : ℕ) → at < length table → (q x : ℕ) → (x ≤ get_or (set table at (max (get_or table at 0) to)) q 0) ↔ ((x ≤ get_or table q 0) ⊎ ((at ≡ q) × (x ≤ to)))
-raised_at table at to inside q x =
-    let most = max (get_or table at 0) to in
-    elim (cases_eq q at) [
-      | inl here ↦
-          let is : get_or (set table at most) q 0 ≡ most = ap (λ k. get_or (set table at most) k 0) here ∙ get_or-set_same table at most 0 inside in
-          let was : get_or table q 0 ≡ get_or table at 0 = ap (λ k. get_or table k 0) here in (
-            (λ l. elim (cases_lt (get_or table at 0) to) [ inl less ↦ inr (sym here, omega arith) | inr more ↦ inl (omega arith) ]),
-            (λ e. elim e [ inl o ↦ omega arith | inr w ↦ let l = w.1 in omega arith ]),
-          )
-      | inr other ↦ let is = get_or-set_other table at q most 0 other in ((λ l. inl (omega arith)), (λ e. elim e [ inl o ↦ omega arith | inr w ↦ absurd (other (sym w.0)) ]))
-    ]
+raised_at table at to inside q x = grind (arith, cases_eq, get_or-set_same, cases_lt, get_or-set_other)
 
 -- those at the first n places
 pub record HasRaised (old places : List ℕ) (n to : ℕ) (table : List ℕ) : Type 0 where
@@ -55,7 +45,4 @@ raised_all old places n to table all has q x = subst (λ (xs : List ℕ). (x ≤
 
 -- what is below the greater is below one of them
 pub below_max : (a b most : ℕ) → most ≡ max a b → (x : ℕ) → (x ≤ most) ↔ ((x ≤ a) ⊎ (x ≤ b))
-below_max a b most is x = (
-  (λ l. elim (cases_lt a b) [ inl less ↦ inr (omega arith) | inr more ↦ inl (omega arith) ]),
-  (λ e. elim e [ inl f ↦ omega arith | inr f ↦ omega arith ]),
-)
+below_max a b most is x = grind (arith, cases_lt)

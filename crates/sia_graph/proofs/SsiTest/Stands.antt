@@ -63,12 +63,7 @@ module _ (h : List Event) (i : ℕ) where
       }
 
   raised_same : (P Q : ℕ → Type 0) (old table : List ℕ) (to : ℕ) → IsRaised h i P old table to → ((p : ℕ) → P p ↔ Q p) → IsRaised h i Q old table to
-  raised_same P Q old table to raised same = record {
-    long = raised.long;
-    kept = raised.kept;
-    sound = λ e x l. elim (raised.sound e x l) [ inl o ↦ inl o | inr w ↦ inr (w.0, (same w.0).0 w.1, w.2, w.3) ];
-    has = λ p q. raised.has p ((same p).1 q);
-  }
+  raised_same P Q old table to raised same = grind arith
 
   -- by the first n of the positions that were seen, and then by the first n of the keys that were passed over
   abbrev pub IsSeenFirst : List ℕ → ℕ → ℕ → Type 0
@@ -91,12 +86,7 @@ module _ (h : List Event) (i : ℕ) where
       (λ q c. Contains-push_cases (take n saw) p q (subst (λ (xs : List ℕ). Contains xs q) more c))
 
   pub seen_all : (saw own : List ℕ) (n : ℕ) (old table : List ℕ) (to : ℕ) → length saw ≤ n → IsRaised h i (IsSeenFirst saw n) old table to → IsRaised h i (IsOwnFirst saw own 0) old table to
-  seen_all saw own n old table to all raised =
-      raised_same (IsSeenFirst saw n) (IsOwnFirst saw own 0) old table to raised
-      (λ p. (
-        (λ c. inl (subst (λ (xs : List ℕ). Contains xs p) (take_all n saw all) c)),
-        (λ e. elim e [ inl c ↦ subst (λ (xs : List ℕ). Contains xs p) (sym (take_all n saw all)) c | inr o ↦ let l = o.2.1 in absurd (omega arith) ]),
-      ))
+  seen_all saw own n old table to all raised = grind (arith, raised_same, take_all)
 
   pub own_more : (saw own : List ℕ) (n d : ℕ) (old table : List ℕ) (to p e : ℕ) (v : KeyVersion) → n < length own → IsRaised h i (IsOwnFirst saw own n) old table to → e < length table
       → IsAtPosition h p v → IsKeyAt h (get_or own n d) v.key → v.commit ≡ 0 → StandsAt h i p e → IsRaised h i (IsOwnFirst saw own (n + 1)) old (set table e (max (get_or table e 0) to)) to
@@ -128,8 +118,7 @@ module _ (h : List Event) (i : ℕ) where
 
 -- where one stands there is a position
 pub stands_there : (h : List Event) (i p e : ℕ) → HasPosition h p → StandsAt h i p e → HasPosition h e
-stands_there h i p e has (inl here) = subst (HasPosition h) (sym here.0) has
-stands_there h i p e has (inr own) = (own.1, own.3)
+stands_there h i p e q r = grind arith
 
 -- a look at a position is one of the transaction
 pub look_at : (h : List Event) (a : Accesses) (are : AreAccesses h (λ _. ⊤) a) (i t p : ℕ) → IsCommittedAt h i t → IsLookAt h a i p → (u : KeyVersion) × IsAtPosition h p u × Looked h t u.key u.commit

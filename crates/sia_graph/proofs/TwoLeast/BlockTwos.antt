@@ -6,7 +6,7 @@ use Rattle.std.proofs.lemmas.Bool.{cases_lt}
 use Rattle.std.proofs.lemmas.List.{map_more}
 use Rattle.std.proofs.lemmas.List.Elements.{Contains-append_left, Contains-append_right, Contains-append_cases, Contains-push, Contains-push_cases}
 use Rattle.sia_graph.specs.KeyBlocks.{IsUnderSome}
-use Rattle.sia_graph.specs.Twos.{AreTwosOf, AreTwosOver, IsLeastNumber, IsTwo, IsWith}
+use Rattle.sia_graph.specs.Twos.{AreTwosOf, AreTwosOver, IsLeastNumber, IsWith}
 use Rattle.sia_graph.specs.declared.twos.Two.{Two}
 use Rattle.sia_graph.proofs.SparseGraphs.KeyBlocks.{half_over, lower_over, one_block}
 use Rattle.sia_graph.proofs.Shared.LeastNumbers.{least_either, least_none, least_same, other_of, two_none}
@@ -85,24 +85,12 @@ over_more P Held size i nodes new blocks few over within long put are =
     }
 
 pub over_as : (P Q : ℕ → ℕ → Type 0) (size : ℕ) (nodes : List Two) → ((key r : ℕ) → P key r → Q key r) → ((key r : ℕ) → Q key r → P key r) → AreTwosOver size P nodes → AreTwosOver size Q nodes
-over_as P Q size nodes to back are = record {
-  entries = are.entries;
-  few = are.few;
-  over = λ key r l. ((λ has. to key r ((are.over key r l).0 has)), (λ q. (are.over key r l).1 (back key r q)));
-  within = are.within;
-  twos = are.twos;
-}
+over_as P Q size nodes to back are = grind arith
 
 -- nothing yet
 pub over_none : (P : ℕ → ℕ → Type 0) → ((key r : ℕ) → ¬ P key r) → (size : ℕ) (nodes : List Two) → ((block : ℕ) (d : Two) → block < length nodes → get_or nodes block d ≡ record { least = 4294967295; next = 4294967295 })
     → AreTwosOver size P nodes
-over_none P none size nodes empty = record {
-  entries = [];
-  few = λ b r has. let n = has.1 in absurd (omega arith);
-  over = λ key r l. ((λ has. let n = has.1.1 in absurd (omega arith)), (λ p. absurd (none key r p)));
-  within = λ b r has. let n = has.1 in absurd (omega arith);
-  twos = λ block d l. subst (λ t. IsTwo (At [] block) t) (sym (empty block d l)) (two_none (At [] block) (λ q is. let n = is.1 in absurd (omega arith)));
-}
+over_none P none size nodes empty = grind (arith, two_none)
 
 -- what stands with the blocks over the key that are lower than this height
 abbrev pub IsUnder : List (ℕ × ℕ) → ℕ → ℕ → ℕ → ℕ → Type 0
@@ -133,7 +121,6 @@ rises_on nodes leaf me block least at d inside own another rising =
           (λ r is. elim (cases_lt is.1 e) [
             | inl less ↦ inl (is.0, is.1, less, is.3, is.4, is.5, is.6)
             | inr more ↦
-                let l = is.2 in
                 let f : is.1 ≡ e = omega arith in
                 let g : is.0 ≡ block = one_block is.0 block (2 ^ e) leaf (subst (λ n. is.0 * 2 ^ n ≤ leaf) f is.3) (subst (λ n. leaf < (is.0 + 1) * 2 ^ n) f is.4) rising.1 rising.2 in
                 inr (subst (λ b. At entries b r) g is.5, is.6)

@@ -1,5 +1,5 @@
 -- Numbers of transactions that are entered at places, transaction by transaction, and the two least at each.
-use Rattle.std.proofs.Common.{◌≡◌, ◌⊎◌, inl, inr, ℕ, ◌+◌, ◌*◌, ◌<◌, ◌≤◌, Bool, false, List, [], ◌++◌, length, get_or, map, replicate, set, ap, subst, sym, ◌∙◌, arith}
+use Rattle.std.proofs.Common.{◌≡◌, ◌⊎◌, inl, inr, ℕ, ◌+◌, ◌*◌, ◌<◌, ◌≤◌, Bool, List, [], ◌++◌, length, get_or, map, replicate, set, ap, subst, sym, ◌∙◌, arith}
 use Rattle.std.specs.Prelude.{◌↔◌, ⊤, Contains}
 use Rattle.std.proofs.lemmas.Bool.{cases_eq, cases_lt, false≢true}
 use Rattle.std.proofs.lemmas.List.{get_or-replicate, get_or-set_other, get_or-set_same, get_or_past, length-replicate, length-set}
@@ -44,43 +44,18 @@ none_at n twos is = let long = ap (length {A = Two}) is ∙ length-replicate n n
 
 -- nothing yet
 pub none_entered : (P : ℕ → ℕ → Type 0) → ((q r : ℕ) → ¬ P q r) → (twos : List Two) → ((q : ℕ) (d : Two) → q < length twos → get_or twos q d ≡ none) → AreEntered P twos
-none_entered P none twos empty = record {
-  entries = [];
-  few = λ q r has. let n = has.1 in absurd (omega arith);
-  same = λ q r. ((λ has. let n = has.1 in absurd (omega arith)), (λ p. absurd (none q r p)));
-  least = λ q d l. subst (λ t. IsTwo (At [] q) t) (sym (empty q d l)) (two_none (At [] q) (λ r is. let n = is.1 in absurd (omega arith)));
-}
+none_entered P none twos empty = grind (arith, two_none)
 
 pub entered_as : (P Q : ℕ → ℕ → Type 0) (twos : List Two) → ((q r : ℕ) → P q r ↔ Q q r) → AreEntered P twos → AreEntered Q twos
-entered_as P Q twos is are = record {
-  entries = are.entries;
-  few = are.few;
-  same = λ q r. ((λ has. (is q r).0 ((are.same q r).0 has)), (λ x. (are.same q r).1 ((is q r).1 x)));
-  least = are.least;
-}
+entered_as P Q twos is are = grind arith
 
 module _ (P : ℕ → ℕ → Type 0) (t : ℕ) where
   -- those before a number and that one are those before the next
   one_more : (Here : ℕ → Type 0) → ((q : ℕ) → Here q ↔ P q t) → (q r : ℕ) → (((r < t) × P q r) ⊎ ((r ≡ t) × Here q)) ↔ ((r < t + 1) × P q r)
-  one_more Here is q r = (
-    (λ w. elim w [
-      | inl x ↦ let l = x.0 in (omega arith, x.1)
-      | inr x ↦ let e = x.0 in (omega arith, subst (P q) (sym e) ((is q).0 x.1))
-    ]),
-    (λ w. let l = w.0 in elim (cases_lt r t) [
-      | inl less ↦ inl (less, w.1)
-      | inr more ↦ let e : r ≡ t = omega arith in inr (e, (is q).1 (subst (P q) e w.1))
-    ]),
-  )
+  one_more Here p q r = grind (arith, cases_lt)
 
   none_more : ((q : ℕ) → ¬ P q t) → (q r : ℕ) → ((r < t) × P q r) ↔ ((r < t + 1) × P q r)
-  none_more none q r = (
-    (λ w. let l = w.0 in (omega arith, w.1)),
-    (λ w. let l = w.0 in elim (cases_lt r t) [
-      | inl less ↦ (less, w.1)
-      | inr more ↦ let e : r ≡ t = omega arith in absurd (none q (subst (P q) e w.1))
-    ]),
-  )
+  none_more none q r = grind (arith, cases_lt)
 
   -- number t has P at the places of a row
   pub next_entered : (row : List ℕ) (twos new : List Two) → t < 4294967295 → ((q : ℕ) → Contains row q ↔ P q t) → IsPutAt row t twos new
@@ -141,10 +116,7 @@ module _ (h : List Event) (a : Accesses) (are : AreAccesses h (λ _. ⊤) a) (le
 
 -- who is left is among so many
 pub left_below : (left : List Bool) (r : ℕ) → IsLeftIn left r → r < length left
-left_below left r is = elim (cases_lt r (length left)) [
-  | inl less ↦ less
-  | inr past ↦ absurd (false≢true (sym (get_or_past left r false past) ∙ is))
-]
+left_below left r is = grind (arith, cases_lt, false≢true, get_or_past)
 
 -- up to before a position, those at earlier ones of its key are entered at each; from there on none are
 pub record IsUpRun (h : List Event) (entries : List (ℕ × ℕ)) (n : ℕ) (twos : List Two) : Type 0 where
