@@ -18,9 +18,6 @@ module _ (n : Neighbours) (i : ℕ) where
   abbrev pub IsLookRow : Reading → Neighbour → Type 0
   IsLookRow look row = IsInRow n.evidence.index.now i look.reader row
 
-  pub lookers_none : (from : ℕ) (row : Neighbour) → ¬ IsLookerRow n i from from row
-  lookers_none from row is = let low = is.1 in let high = is.2 in omega arith
-
   pub lookers_more : (from q : ℕ) → from ≤ q → (row : Neighbour) → (IsLookerRow n i from q row ⊎ FromSome IsLookRow (slice_index_or n.looks q []) row) ↔ IsLookerRow n i from (q + 1) row
   lookers_more from q low row = (
     (λ e. elim e [ inl is ↦ (is.0, is.1, (let high = is.2 in omega arith), is.3) | inr f ↦ (q, low, omega arith, f) ]),

@@ -57,9 +57,6 @@ module _ (h : List Event) (i q : ℕ) (v : KeyVersion) (at : IsAtPosition h q v)
   look_left o is m = adds_nothing (IsLaterLook h i q) looks (λ look later. none_later o is m later.1 later.2 later.3)
 
 module _ (h : List Event) (a : Accesses) (are : AreAccesses h (λ _. ⊤) a) where
-  pub looks_none : AreLooksTo h a 0 []
-  looks_none = record { seen = λ look c. absurd (let below = c.1 in omega arith); each = λ i q p below. absurd (omega arith) }
-
   pub looks_more : (i t : ℕ) → IsCommittedAt h i t → (old new : List Reading) → AreLooksTo h a i old → Adds (FromSome (IsLaterLook h i) (slice_index_or a.saw i [])) old new → AreLooksTo h a (i + 1) new
   looks_more i t at old new before more = record {
     seen = λ look c. elim ((more look).0 c) [

@@ -27,9 +27,6 @@ passing_pushed i miss xs = adds_push (IsPassingOf i miss) xs _ refl (λ p is. sy
 abbrev pub ArePassingsTo : Accesses → ℕ → List Passing → Type 0
 ArePassingsTo a n passings = (p : Passing) → Contains passings p ↔ ((p.reader < n) × HasMiss a p.reader (record { from = p.from; to = p.to }))
 
-pub passings_none : (a : Accesses) → ArePassingsTo a 0 []
-passings_none a p = ((λ c. absurd (let below = c.1 in omega arith)), (λ is. absurd (let below = is.0 in omega arith)))
-
 pub passings_more : (h : List Event) (a : Accesses) → AreAccesses h (λ _. ⊤) a → (i t : ℕ) → IsCommittedAt h i t → (old new : List Passing) → ArePassingsTo a i old → Adds (FromSome (IsPassingOf i) (slice_index_or a.missed i [])) old new
     → ArePassingsTo a (i + 1) new
 passings_more h a are i t at old new before more p = (

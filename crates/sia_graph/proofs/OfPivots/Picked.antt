@@ -12,9 +12,6 @@ module _ {A : Type 0} (rank : A → List ℕ) (Q : A → Type 0) (xs : List A) w
   abbrev pub ArePicked : ℕ → List A → Type 0
   ArePicked n ys = ListsBy rank (λ x. Contains (take n xs) x × Q x) ys
 
-  pub none_picked : ArePicked 0 []
-  none_picked = grind arith
-
   module _ (up : AllPairs (λ x y. Precedes (rank x) (rank y)) xs) (n : ℕ) (d : A) (within : n < length xs) (ys now : List A) (are : ArePicked n ys) where
     abbrev next : A
     next = get_or xs n d

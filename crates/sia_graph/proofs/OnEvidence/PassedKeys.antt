@@ -6,7 +6,7 @@ use Rattle.std.proofs.lemmas.Bool.{cases_lt, ltb-true, ltb-false}
 use Rattle.std.proofs.lemmas.List.{get_or_default}
 use Rattle.sia_parts.specs.declared.accesses.RangeMiss.{RangeMiss}
 use Rattle.sia_parts.specs.Sights.{Adds}
-use Rattle.sia_parts.proofs.Shared.Adding.{adds_both, adds_nothing, adds_same, some_push}
+use Rattle.sia_parts.proofs.Shared.Adding.{adds_both, adds_same, some_push}
 use Rattle.sia_graph.specs.Passed.{IsHeldBy}
 
 -- what is found by a search in numbers that don't descend
@@ -54,9 +54,6 @@ pub record HasCutTo (keys : List ℕ) (start to : ℕ) (own₀ own : List ℕ) (
   pub held_are : (j : ℕ) → IsHeldBy held j ↔ (IsHeldBy held₀ j ⊎ ((start ≤ j) × (j < to) × (j < from) × ¬ Contains keys j))
 
 module _ (keys : List ℕ) (start to : ℕ) (own₀ : List ℕ) (held₀ : List RangeMiss) where
-  pub cut_none : HasCutTo keys start to own₀ own₀ held₀ held₀ start
-  cut_none = grind (arith, adds_nothing)
-
   pub cut_more : (own mid : List ℕ) (held : List RangeMiss) (from next : ℕ) → HasCutTo keys start to own₀ own held₀ held from → IsNextKey keys from to next
       → Adds (λ j. (j ≡ next) × (next < to)) own mid
       → HasCutTo keys start to own₀ mid held₀ (held ++ record { from = from; to = next } ∷ []) (next + 1)

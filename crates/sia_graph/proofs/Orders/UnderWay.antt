@@ -100,9 +100,6 @@ module _ (g : Graph) (done : List Bool) (counts passed first next : List ℕ) (p
 
     -- less holds a node back that is still held by steps
     module _ (less : ℕ → ℕ) (fewer : IsOneFewer node pending less) (many : 1 < get_or counts node 0) where
-      pub was_held : get_or counts node 0 ≡ told g.targets done node + less node + 2
-      was_held = let h = is.held node below (omega arith) in let e = fewer.0 in omega arith
-
       pub not_waiting : (s : ℕ) → ¬ waits_at node s
       not_waiting s w = let e = w.1 in omega arith
 

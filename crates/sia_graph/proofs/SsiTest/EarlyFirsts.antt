@@ -148,10 +148,6 @@ pub commit_lived : (h : List Event) (lifetimes : List Lifetime) → ((txns : Lis
     → (i < length lifetimes) × ((d : Lifetime) → CommitsAt h t (get_or lifetimes i d).commit)
 commit_lived h lifetimes lived i t at = grind arith
 
--- the values of so many numbers, one more each time
-pub values_none : (place : ℕ) (lifetimes : List Lifetime) (values : List ℕ) → values ≡ [] → AreValuesFrom place lifetimes values 0
-values_none place lifetimes values empty = record { long = ap (length {A = ℕ}) empty; late = λ i d below. absurd (omega arith); early = λ i d below. absurd (omega arith) }
-
 pub values_more : (place : ℕ) (lifetimes : List Lifetime) (values new : List ℕ) (n value : ℕ) (x : Lifetime) → n < length lifetimes → AreValuesFrom place lifetimes values n → new ≡ values ++ value ∷ []
     → (place ≤ (get_or lifetimes n x).commit → value ≡ length lifetimes - n) → ((get_or lifetimes n x).commit < place → value ≡ 0) → AreValuesFrom place lifetimes new (n + 1)
 values_more place lifetimes values new n value x below are is late early = grind (arith, length-append, cases_lt, get_or_append_left, get_or_default, get_or_push)

@@ -1,5 +1,5 @@
 -- The greatest value of those with an rw edge to a transaction, by the positions of its versions.
-use Rattle.std.proofs.Common.{◌≡◌, ◌⊎◌, inl, inr, ℕ, ◌+◌, ◌<◌, ◌≤◌, List, length, get_or, max, refl, ap, sym, subst, ◌∙◌, arith}
+use Rattle.std.proofs.Common.{◌≡◌, ◌⊎◌, inl, inr, ℕ, ◌+◌, ◌<◌, ◌≤◌, List, length, get_or, max, refl, ap, sym, subst, ◌∙◌}
 use Rattle.std.specs.Prelude.{◌↔◌}
 use Rattle.std.proofs.lemmas.List.{take_all}
 use Rattle.sia_events.specs.declared.event.Event.{Event}
@@ -32,9 +32,6 @@ last_either P Q R a b most is same first second x some = (
 )
 
 module _ (h : List Event) (values late : List ℕ) (are : AreLate h values late) (made : List ℕ) where
-  pub entering_none : IsLastOf (EntersByFirst h values made 0) 0
-  entering_none x some = ((λ l. absurd (omega arith)), (λ w. let l = w.1.1.1 in absurd (omega arith)))
-
   pub entering_more : (n d greatest most : ℕ) → n < length made → (v : KeyVersion) → IsAtPosition h (get_or made n d) v → 0 < v.commit → most ≡ max greatest (get_or late (get_or made n d) 0)
       → IsLastOf (EntersByFirst h values made n) greatest → IsLastOf (EntersByFirst h values made (n + 1)) most
   entering_more n d greatest most below v at some is before =

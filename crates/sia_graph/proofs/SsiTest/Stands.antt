@@ -72,9 +72,6 @@ module _ (h : List Event) (i : ℕ) where
   abbrev pub IsOwnFirst : List ℕ → List ℕ → ℕ → ℕ → Type 0
   IsOwnFirst saw own n p = Contains saw p ⊎ ((j : ℕ) × (v : KeyVersion) × Contains (take n own) j × IsAtPosition h p v × IsKeyAt h j v.key × (v.commit ≡ 0))
 
-  pub seen_none : (saw old : List ℕ) (to : ℕ) → IsRaised h i (IsSeenFirst saw 0) old old to
-  seen_none saw old to = raised_none (IsSeenFirst saw 0) old to (λ p c. let l = c.1 in omega arith)
-
   pub seen_more : (saw : List ℕ) (n d : ℕ) (old table : List ℕ) (to e : ℕ) → n < length saw → IsRaised h i (IsSeenFirst saw n) old table to → e < length table → StandsAt h i (get_or saw n d) e
       → IsRaised h i (IsSeenFirst saw (n + 1)) old (set table e (max (get_or table e 0) to)) to
   seen_more saw n d old table to e below raised inside here =

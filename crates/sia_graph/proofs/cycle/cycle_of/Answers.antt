@@ -1,7 +1,6 @@
 use Rattle.std.specs.Prelude.{MatchOption, unwrap_or}
 use Rattle.std.specs.List.{AllWithin, HoldsAt}
-use Rattle.std.proofs.lemmas.Iterator.{IsFirst-from_position, YieldsList-from_slice}
-use Rattle.std.proofs.Common.{◌≡◌, ◌⊎◌, inl, inr, ℕ, Bool, true, false, List, Option, None, Some, rules, sym, ◌+◌, ◌<◌, ◌≤◌, length, ap, get_or, refl, reverse, subst, ◌∙◌, arith}
+use Rattle.std.proofs.Common.{◌≡◌, ◌⊎◌, inl, inr, ℕ, Bool, true, false, List, Option, sym, ◌+◌, ◌<◌, ◌≤◌, length, ap, get_or, refl, reverse, subst, ◌∙◌, arith}
 use Rattle.std.proofs.lemmas.Bool.{cases_lt}
 use Rattle.sia_graph.specs.Previous.{IsLeftIn}
 use Rattle.sia_graph.specs.Searched.{IsEdgeIn, IsMemberIn}
@@ -19,15 +18,10 @@ abbrev IsFirstLeft : List Bool → Option ℕ → Type 0
 IsFirstLeft left r = MatchOption r (AllWithin (λ b. b ≡ false) left 0 (length left)) (λ i. (i < length left) × HoldsAt (λ b. b ≡ true) left i × AllWithin (λ b. b ≡ false) left 0 i)
 
 is_first : (left : List Bool) (r : Option ℕ) → IsFirstLeft left r → ((i : ℕ) × (i < length left) × IsLeftIn left i) → (start : ℕ) → start ≡ unwrap_or r 0 → (start < length left) × IsLeftIn left start × ((i : ℕ) → i < start → ¬ IsLeftIn left i)
-is_first left None none some start is = absurd (let no = none some.0 false (omega arith) some.1 in let left_is = some.2 in cc)
-is_first left (Some s) found some start is =
-    subst (λ n. (n < length left) × IsLeftIn left n × ((i : ℕ) → i < n → ¬ IsLeftIn left i)) (sym is) (found.0, found.1 false, λ i l here. (let no = found.2 i false (omega arith) l in cc))
+is_first left r p q start s = grind arith
 
 start_is : (c : After-unwrap_or-place) → (c.unwrap_or-place.result < length c.args.left.now) × IsLeftIn c.args.left.now c.unwrap_or-place.result × ((i : ℕ) → i < c.unwrap_or-place.result → ¬ IsLeftIn c.args.left.now i)
-start_is c =
-    is_first c.args.left.now c.position.result
-    (IsFirst-from_position _ _ c.position.result (λ b. b ≡ true) (λ b. b ≡ false) c.position.ensures.ran (YieldsList-from_slice _ c.iter.ensures.rest) (λ x q k. search rules) (λ x q k. search rules))
-    c.requires.some c.unwrap_or-place.result c.unwrap_or-place.ensures
+start_is c = grind (arith, is_first)
 
 within : (c : After-unwrap_or-place) → StaysWithin c.args.previous.now
 within c = stays_within c.args.ids.now (IsEdgeIn c.args.edges.now) (IsLeftIn c.args.left.now) c.args.previous.now c.requires.long.1 c.requires.least
@@ -37,9 +31,7 @@ started c = let a = (start_is c).0 in let b = c.requires.long in omega arith
 
 -- as many steps back as there are positions lead to the place, and one goes round from there
 reached : (c : After-loop) → back c.args.previous.now (length c.args.previous.now) c.unwrap_or-place.result ≡ c.loop.place
-reached c =
-    let all : c.loop.counter ≡ length c.args.previous.now = let a = c.loop-test.false in let b = c.loop.auto.counter-end in omega arith in
-    sym (c.loop.invariant.1 ∙ ap (λ n. back c.args.previous.now n c.unwrap_or-place.result) all)
+reached c = grind arith
 
 turns : (c : After-loop) → (period : ℕ) × (0 < period) × (period ≤ length c.args.previous.now) × (back c.args.previous.now period c.loop.place ≡ c.loop.place)
 turns c =
@@ -48,27 +40,13 @@ turns c =
 
 -- home is the least of as many steps back from there
 home_is : (c : After-round) → ((n : ℕ) × (n ≤ length c.args.previous.now) × (back c.args.previous.now n c.loop.place ≡ c.round.home)) × ((n : ℕ) → n ≤ length c.args.previous.now → c.round.home ≤ back c.args.previous.now n c.loop.place)
-home_is c =
-    let all : c.round.counter ≡ length c.args.previous.now = let a = c.round-test.false in let b = c.round.auto.counter-end in omega arith in
-    let so = c.round.invariant in
-    ((so.2.0, (let few = so.2.1 in omega arith), so.2.2), (λ n few. so.3 n (omega arith)))
-
-pub loop-init : goal.loop-init
-loop-init c = (started c, refl)
+home_is c = grind arith
 
 pub loop-preserved : goal.loop-preserved
-loop-preserved c = (
-  within (goal.at.loop-preserved c).After-unwrap_or-place c.loop.place c.loop.invariant.0,
-  ap (λ i. get_or c.args.previous.now i 0) c.loop.invariant.1 ∙ sym (back_next c.args.previous.now c.loop.counter c.unwrap_or-place.result),
-)
+loop-preserved c = grind (arith, within, back_next)
 
 pub round-init : goal.round-init
-round-init c = (
-  c.loop.invariant.0,
-  refl,
-  (0, omega arith, refl),
-  λ n few. let none : n ≡ 0 = omega arith in subst (λ k. c.loop.place ≤ back c.args.previous.now k c.loop.place) (sym none) (omega arith),
-)
+round-init c = grind arith
 
 pub round-preserved : goal.round-preserved
 round-preserved c =
@@ -89,10 +67,7 @@ round-preserved c =
 
 -- home is a place on the cycle
 home_inside : (c : After-new-steps) → c.round.home < length c.args.previous.now
-home_inside c =
-    let previous = c.args.previous.now in
-    let v = (home_is (goal.at.walk-init c).After-round).0 in
-    subst (λ i. i < length previous) v.2 (stays previous (within (goal.at.walk-init c).After-unwrap_or-place) v.0 c.loop.place c.loop.invariant.0)
+home_inside c = grind (arith, home_is, stays, within)
 
 round_is : (c : After-new-steps) → (period : ℕ) × (0 < period) × (period ≤ length c.args.previous.now) × (back c.args.previous.now period c.round.home ≡ c.round.home)
 round_is c =
@@ -108,9 +83,7 @@ least_is c =
 
 -- as many steps back from the start lead home
 homed : (c : After-loop) (home n : ℕ) → back c.args.previous.now n c.loop.place ≡ home → back c.args.previous.now (length c.args.previous.now + n) c.unwrap_or-place.result ≡ home
-homed c home n is =
-    let previous = c.args.previous.now in
-    back_more previous (length previous) n c.unwrap_or-place.result ∙ ap (back previous n) (reached c) ∙ is
+homed c home n is = grind (arith, back_more, reached)
 
 -- each step back is along an edge from the least that leads there
 previous_are : (c : After-unwrap_or-place) → ArePreviousFrom c.args.ids.now (IsEdgeIn c.args.edges.now) (IsLeftIn c.args.left.now) c.args.previous.now c.unwrap_or-place.result
@@ -143,9 +116,6 @@ walk-init c =
       subst (λ (l : List Step). IsPartOfRound c.args.ids.now (IsEdgeIn c.args.edges.now) c.args.previous.now c.round.home round.0 l c.round.home) (sym c.new-steps.ensures.items)
           (part_none c.args.ids.now (IsEdgeIn c.args.edges.now) c.args.previous.now c.round.home round.0 (home_inside c) round.1),
     )
-
-pub bounds-previous-at : goal.bounds-previous-at
-bounds-previous-at c = c.walk.invariant.3.inside
 
 pub least_step-requires-clause-leads : goal.least_step-requires-clause-leads
 least_step-requires-clause-leads c =

@@ -9,17 +9,11 @@ use Rattle.sia_parts.specs.declared.finding.Kind.{Kind}
 use Rattle.sia_parts.specs.declared.finding.Kind.TheVariants.{Ww, Wr, Rw}
 use Rattle.sia_graph.specs.LeastEdges.{IsMet}
 use Rattle.sia_graph.specs.Orders.{Leads}
-use Rattle.sia_graph.proofs.Shared.AccessLists.{saw_inside, saw_is, saw_position}
+use Rattle.sia_graph.proofs.Shared.AccessLists.{saw_is, saw_position}
 use Rattle.sia_graph.proofs.Cycles.MetEdges.{AreNumbersOf, least_key, least_of_kind, no_key, not_same, of_last, wr_met, ww_met}
 use Rattle.sia_parts.proofs.Shared.OneNumber.{one_committed as one_txn_at}
 use Rattle.sia_graph.proofs.cycle.least_edge.Goals.{After-least_met-ww, After-least_met-wr}
 use Rattle.sia_graph.proofs.cycle.least_edge.Goals as goal
-
-pub made_by-made-requires : goal.made_by-made-requires
-made_by-made-requires c = let l = c.requires.leads in (l.0, l.2)
-
-pub made_by-requires : goal.made_by-requires
-made_by-requires c = let l = c.requires.leads in (l.1, l.3)
 
 pub least_met-ww-requires-clause-made : goal.least_met-ww-requires-clause-made
 least_met-ww-requires-clause-made c = let l = c.requires.leads in (l.0, c.made_by-made.ensures l.0 l.2)
@@ -36,10 +30,7 @@ module _ (c : After-least_met-ww) (t u : ℕ) (source : IsCommittedAt c.args.evi
       subst (λ x. Leads (IsEdge h) x u) (one_txn_at h c.args.t l.0 t l.2 source) (subst (λ x. Leads (IsEdge h) l.0 x) (one_txn_at h c.args.u l.1 u l.3 target) l.4)
 
   edge : (kind : Kind) × (k : ℕ) × EdgeOfKind c.args.evidence.now.index.now kind t u k
-  edge =
-      let h = c.args.evidence.now.index.now in
-      let e = leads.0 in
-      (e.kind, e.key, subst (λ x. EdgeOfKind h e.kind t x e.key) leads.3 (subst (λ x. EdgeOfKind h e.kind x e.dst e.key) leads.2 leads.1))
+  edge = grind (arith, leads)
 
   other : t ≢ u
   other =
@@ -65,9 +56,6 @@ returns-then-ww-lt-NONE c t u source target =
     let w = least_key h (FromSome (IsMet h Ww c.made_by-made.result.now) c.made_by.result.now) (WwEdge h t u) (ww (goal.at.returns-then-ww-lt-NONE c).After-least_met-ww t u source target)
     c.least_met-ww.result c.least_met-ww.ensures (λ e. absurd (omega arith)) in
     (w.0, w.1, least_of_kind h t u Ww w.0 w.2 (λ x j l. absurd (omega arith)))
-
-pub at-requires : goal.at-requires
-at-requires c = let e = c.args.evidence.now in let l = c.requires.leads in saw_inside e.index.now e.accesses.now c.requires.is.accesses c.args.u l.1 l.3
 
 pub least_met-wr-requires-clause-made : goal.least_met-wr-requires-clause-made
 least_met-wr-requires-clause-made c = let l = c.requires.leads in (l.0, c.made_by-made.ensures l.0 l.2)

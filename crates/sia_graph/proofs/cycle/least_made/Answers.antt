@@ -1,13 +1,12 @@
-use Rattle.std.proofs.Common.{◌≡◌, ◌<◌, true, false, get_or, length, ltb, ap, subst, sym, ◌∙◌, arith}
-use Rattle.std.specs.Option.{is_some}
+use Rattle.std.proofs.Common.{◌≡◌, ◌<◌, true, false, get_or, length, ltb, subst, sym, ◌∙◌, arith}
 use Rattle.std.specs.List.Sorted.{IsPartitionPoint}
-use Rattle.std.proofs.lemmas.Bool.{ltb-true, ltb-false}
+use Rattle.std.proofs.lemmas.Bool.{ltb-true}
 use Rattle.std.proofs.lemmas.List.{get_or_default}
 use Rattle.std.proofs.lemmas.List.Elements.{Contains-get_or}
 use Rattle.sia_index.specs.Positions.{HasPosition, IsAtPosition}
 use Rattle.sia_parts.proofs.CutKeys.StartLemmas.{increasing}
 use Rattle.sia_graph.proofs.Shared.AscendingIds.{ids_rise}
-use Rattle.sia_graph.proofs.Cycles.KeyStretches.{first_is, none_before, none_there}
+use Rattle.sia_graph.proofs.Cycles.KeyStretches.{first_is, none_before}
 use Rattle.sia_graph.proofs.cycle.least_made.Goals.{After-place_from, In-Some}
 use Rattle.sia_graph.proofs.cycle.least_made.Goals as goal
 
@@ -49,10 +48,3 @@ returns-in_default c =
     let e = is at in
     let f = c.if-position-to.false in
     none_before c.args.index.now made c.requires c.args.from place (point (goal.at.returns-in_default c).After-place_from) c.args.to (below at) (omega arith)
-
-pub returns-in_default-2 : goal.returns-in_default-2
-returns-in_default-2 c =
-    let made = c.args.made.now in
-    let place = c.place_from.result in
-    none_there c.args.index.now made c.requires c.args.from place (point (goal.at.returns-in_default-2 c).After-place_from) c.args.to
-    (ltb-false place (length made) (sym c.get.ensures.lookup.0 ∙ ap is_some c.in_default.is))

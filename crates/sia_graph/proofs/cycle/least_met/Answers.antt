@@ -1,18 +1,11 @@
 use Rattle.std.proofs.Common.{◌+◌, ℕ, List, get_or, take, sym, subst, arith}
 use Rattle.std.proofs.lemmas.List.{take_all}
-use Rattle.std.proofs.lemmas.List.Elements.{Contains-get_or}
 use Rattle.sia_parts.specs.Sights.{FromSome}
 use Rattle.sia_graph.specs.LeastEdges.{IsMet}
 use Rattle.sia_graph.specs.Twos.{IsLeastNumber}
 use Rattle.sia_graph.proofs.Cycles.KeyStretches.{as_met}
-use Rattle.sia_graph.proofs.Shared.LeastNumbers.{first_least, least_none}
+use Rattle.sia_graph.proofs.Shared.LeastNumbers.{first_least}
 use Rattle.sia_graph.proofs.cycle.least_met.Goals as goal
-
-pub loop-other-init : goal.loop-other-init
-loop-other-init c = (omega arith, least_none _ (λ q f. (let n = f.1.1 in omega arith)))
-
-pub span_met-from-requires : goal.span_met-from-requires
-span_met-from-requires c = let others = c.args.others.now in c.requires.others (get_or others c.loop-other.other-index 0) (Contains-get_or others c.loop-other.other-index 0 c.loop-other-test.true)
 
 pub loop-other-preserved : goal.loop-other-preserved
 loop-other-preserved c =

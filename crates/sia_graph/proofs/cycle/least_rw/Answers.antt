@@ -9,18 +9,12 @@ use Rattle.sia_parts.specs.declared.finding.Kind.TheVariants.{Rw}
 use Rattle.sia_graph.specs.Extremes.{HasRwEdge}
 use Rattle.sia_graph.specs.LeastEdges.{IsMet, IsMissMet}
 use Rattle.sia_graph.specs.Twos.{IsLeastNumber}
-use Rattle.sia_graph.proofs.Shared.AccessLists.{missed_inside, missed_is, saw_inside, saw_is, saw_position}
+use Rattle.sia_graph.proofs.Shared.AccessLists.{missed_is, saw_is, saw_position}
 use Rattle.sia_graph.proofs.Shared.LeastNumbers.{first_least, least_join, least_none}
 use Rattle.sia_graph.proofs.Cycles.KeyStretches.{as_missed, begins_at}
 use Rattle.sia_graph.proofs.Cycles.MetEdges.{least_key, rw_met}
 use Rattle.sia_parts.proofs.Shared.OneNumber.{one_committed as one_txn_at}
 use Rattle.sia_graph.proofs.cycle.least_rw.Goals as goal
-
-pub made_by-made-requires : goal.made_by-made-requires
-made_by-made-requires c = let l = c.requires.leads in (l.1, l.3)
-
-pub at-requires : goal.at-requires
-at-requires c = let e = c.args.evidence.now in let l = c.requires.leads in saw_inside e.index.now e.accesses.now c.requires.is.accesses c.args.t l.0 l.2
 
 pub least_met-least-requires-clause-made : goal.least_met-least-requires-clause-made
 least_met-least-requires-clause-made c = let l = c.requires.leads in (l.1, c.made_by-made.ensures l.1 l.3)
@@ -31,9 +25,6 @@ least_met-least-requires-clause-others c p there =
     let l = c.requires.leads in
     let a = c.requires.is.accesses in
     saw_position e.index.now e.accesses.now a c.args.t l.0 l.2 p ((saw_is e.index.now e.accesses.now a c.args.t l.0 l.2 p).0 (subst (λ (xs : List ℕ). Contains xs p) c.at.ensures there))
-
-pub at-miss-items-requires : goal.at-miss-items-requires
-at-miss-items-requires c = let e = c.args.evidence.now in let l = c.requires.leads in missed_inside e.index.now e.accesses.now c.requires.is.accesses c.args.t l.0 l.2
 
 pub least_made-requires : goal.least_made-requires
 least_made-requires c = let l = c.requires.leads in (l.1, c.made_by-made.ensures l.1 l.3)

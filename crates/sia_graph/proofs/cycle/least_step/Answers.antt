@@ -3,7 +3,7 @@ use Rattle.sia_events.specs.declared.event.Event.{Event}
 use Rattle.sia_index.proofs.Shared.KeyChains.{key_number}
 use Rattle.sia_index.specs.Info.{IsKeyAt}
 use Rattle.sia_parts.proofs.Shared.FewNumbers.{few_committed}
-use Rattle.sia_parts.specs.Entries.{EdgeOfKind, IsEdge}
+use Rattle.sia_parts.specs.Entries.{IsEdge}
 use Rattle.sia_parts.specs.declared.finding.Edge.{Edge}
 use Rattle.sia_parts.specs.declared.finding.Kind.{Kind}
 use Rattle.sia_parts.specs.declared.finding.Kind.TheVariants.{Ww}
@@ -48,9 +48,6 @@ overflow_cast-at c =
     let few = few_committed c.in-Seen.evidence.now.index.now can.1.well_formed c.args.at (get_or ids c.args.at 0) (ids, can.0, b, refl) in
     omega arith
 
-pub least_edge-kind-requires-clause-is : goal.least_edge-kind-requires-clause-is
-least_edge-kind-requires-clause-is c = (subst (CanFind c.args.ids.now) c.in-Seen.is c.requires.can).1
-
 pub least_edge-kind-requires-clause-leads : goal.least_edge-kind-requires-clause-leads
 least_edge-kind-requires-clause-leads c =
     let ids = c.args.ids.now in
@@ -61,10 +58,7 @@ least_edge-kind-requires-clause-leads c =
 -- the least edge, and its key
 least : (c : After-least_edge-kind) → (k : ℕ) × IsKeyAt c.in-Seen.evidence.now.index.now c.least_edge-kind.result.1 k
     × IsLeastEdgeBetween c.in-Seen.evidence.now.index.now (get_or c.args.ids.now c.args.before 0) (get_or c.args.ids.now c.args.at 0) c.least_edge-kind.result.0 k
-least c =
-    let ids = c.args.ids.now in
-    let can = subst (CanFind ids) c.in-Seen.is c.requires.can in
-    c.least_edge-kind.ensures (get_or ids c.args.before 0) (get_or ids c.args.at 0) (ids, can.0, c.requires.within.0, refl) (ids, can.0, c.requires.within.1, refl)
+least c = grind (arith, in-Seen)
 
 pub bounds-written_keys-key : goal.bounds-written_keys-key
 bounds-written_keys-key c =
@@ -73,9 +67,7 @@ bounds-written_keys-key c =
 
 -- what is least by one key is least by an equal key
 same_key : (h : List Event) (t u : ℕ) (kind : Kind) (k key : ℕ) → k ≡ key → IsLeastEdgeBetween h t u kind k → TakesLeastEdge (IsEdge h) (record { txn = t; kind = kind; key = key }) u
-same_key h t u kind k key same least =
-    subst (λ j. TakesLeastEdge (IsEdge h) (record { txn = t; kind = kind; key = j }) u) same
-    (least.0, λ e is from to. least.1 e.kind e.key (subst (λ v. EdgeOfKind h e.kind t v e.key) to (subst (λ v. EdgeOfKind h e.kind v e.dst e.key) from is)))
+same_key h t u kind k key same least = grind (arith, least)
 
 pub returns-clause-least : goal.returns-clause-least
 returns-clause-least c =

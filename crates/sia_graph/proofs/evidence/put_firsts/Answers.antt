@@ -1,20 +1,15 @@
-use Rattle.std.proofs.Common.{◌≡◌, ◌∙◌, ℕ, List, [], Vec, Global, ap, arith, get_or, refl, subst, sym}
+use Rattle.std.proofs.Common.{◌≡◌, ◌∙◌, ℕ, [], Vec, Global, ap, arith, get_or, refl, subst, sym}
 use Rattle.std.specs.Prelude.{◌↔◌, IsTrue}
 use Rattle.std.proofs.lemmas.Bool.{false≢true}
 use Rattle.std.proofs.lemmas.List.Elements.{Contains-get_or}
 use Rattle.std.proofs.lemmas.Map.Keys.{non_decreasing_from_sorted}
 use Rattle.sia_parts.specs.Sights.{Adds}
-use Rattle.sia_parts.proofs.Shared.Adding.{FromFirst, adds_nothing, adds_push, from_all, from_more, from_none}
+use Rattle.sia_parts.proofs.Shared.Adding.{adds_nothing, adds_push, from_all, from_more}
 use Rattle.sia_graph.specs.Makers.{IsFirstMaker}
 use Rattle.sia_graph.proofs.Shared.MakersTold.{first_told, is_told}
 use Rattle.sia_graph.proofs.OnEvidence.FirstKeys.{IsFirstKeyAt, first_put, firsts_are}
 use Rattle.sia_graph.proofs.evidence.put_firsts.Goals as goal
 use Rattle.sia_graph.proofs.evidence.put_firsts.Goals.{then-eq+in_ok-push, else-eq}
-
-pub loop-position-init : goal.loop-position-init
-loop-position-init c =
-    let made = c.made_by-position-items.result.now in
-    subst (λ (l : List ℕ). Adds (FromFirst (IsFirstKeyAt c.args.index.now c.args.txn) made 0) [] l) (sym c.clear.ensures.items) (from_none (IsFirstKeyAt c.args.index.now c.args.txn) made [])
 
 pub key_at-key-requires : goal.key_at-key-requires
 key_at-key-requires c =
@@ -30,9 +25,6 @@ first_position-requires c =
     let w = ((c.made_by-position-items.ensures c.requires.txn.0 c.requires.txn.1).each (get_or made n 0)).0 (Contains-get_or made n 0 c.loop-position-test.true) in
     let key = c.key_at-key.ensures w.0 w.1 in
     (key.0, key.1, key.2)
-
-pub next_maker-requires : goal.next_maker-requires
-next_maker-requires c = let w = c.first_position.ensures in (w.0, w.1)
 
 pub loop-position-preserved : goal.loop-position-preserved
 loop-position-preserved c =

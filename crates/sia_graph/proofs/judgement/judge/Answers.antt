@@ -1,11 +1,11 @@
-use Rattle.std.proofs.Common.{◌≡◌, ◌↔◌, ◌∙◌, [], ◌==◌, ℕ, Bool, List, length, ap, refl, sym, subst, arith}
+use Rattle.std.proofs.Common.{◌≡◌, ◌↔◌, ◌∙◌, [], ◌==◌, ℕ, Bool, List, length, sym, subst, arith}
 use Rattle.std.specs.Prelude.{IsTrue}
 use Rattle.std.proofs.lemmas.Bool.{eq-eqb, eqb-true}
 use Rattle.std.proofs.lemmas.List.{nil_from_length}
 use Rattle.sia_events.proofs.Shared.Faults.{true_false}
 use Rattle.sia_parts.specs.declared.finding.Unexplained.{Unexplained}
 use Rattle.sia_graph.specs.declared.judgement.Verdict.{Verdict}
-use Rattle.sia_graph.specs.declared.judgement.Verdict.TheVariants.{Cycle, Order}
+use Rattle.sia_graph.specs.declared.judgement.Verdict.TheVariants.{Order}
 use Rattle.sia_events.specs.DangerousStructures.{PassesSsi}
 use Rattle.sia_events.specs.Transactions.{IsCommitted}
 use Rattle.sia_parts.specs.Entries.{IsEdge}
@@ -15,14 +15,10 @@ use Rattle.sia_graph.proofs.judgement.judge.Goals.{After-deref-2, After-ssi_law,
 use Rattle.sia_graph.proofs.judgement.judge.Goals as goal
 
 none_if_empty : (xs : List Unexplained) (n : ℕ) (empty : Bool) → length xs ≡ n → empty ≡ (n == 0) → IsTrue empty ↔ (xs ≡ [])
-none_if_empty xs n empty long is = (
-  (λ yes. nil_from_length xs (let e = eqb-true n 0 (sym is ∙ yes) in omega arith)),
-  (λ nil. let e = ap (length {A = Unexplained}) nil in is ∙ eq-eqb n 0 (omega arith)),
-)
+none_if_empty xs n empty long is = grind (arith, nil_from_length, eqb-true, eq-eqb)
 
 no_order : (verdict : Verdict) → IsOrderVerdict verdict → ((order : List ℕ) → verdict ≡ Order order → ⊥) → ⊥
-no_order (Order order) is none = none order refl
-no_order (Cycle steps) is none = is
+no_order verdict p q = grind arith
 
 pub passes-requires : goal.passes-requires
 passes-requires c = record {

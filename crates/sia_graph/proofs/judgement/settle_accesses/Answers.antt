@@ -1,4 +1,4 @@
-use Rattle.std.proofs.Common.{◌≡◌, ◌≢◌, ◌∙◌, ℕ, List, [], ◌∷◌, Bool, ap, arith, get_or, length, refl, sym, subst}
+use Rattle.std.proofs.Common.{◌≡◌, ◌≢◌, ℕ, List, [], ◌∷◌, ap, arith, get_or, length, refl, sym, subst}
 use Rattle.sia_events.specs.Lists.{ListsAscending}
 use Rattle.sia_events.specs.Transactions.{IsCommitted}
 use Rattle.sia_graph.specs.Previous.{IsLeftIn}
@@ -23,9 +23,6 @@ take_nodes-requires-clause-few c =
     let size = size_few c.size_for-size.result e.index.now e.accesses.now c.requires.evidence.well_formed c.size_for-size.ensures in
     let txns = few_txns e.index.now c.requires.evidence.well_formed c.committed-txns.result.now c.committed-txns.ensures in
     omega arith
-
-pub take_nodes-requires-clause-graph : goal.take_nodes-requires-clause-graph
-take_nodes-requires-clause-graph c = (c.in_ok-graph.ensures c.committed-txns.result.now c.committed-txns.ensures).graph
 
 -- how taking the committed transactions ends
 members : (c : In_ok-order) → IsTaken (IsCommitted c.args.evidence.now.index.now) (IsEdge c.args.evidence.now.index.now) c.committed-txns.result.now c.in_ok-order.field-0
@@ -54,9 +51,6 @@ left_is c =
           (taken_members (IsCommitted h) (IsEdge h) c.size_for-size.result txns c.in_ok-graph.graph
           (of_history h _ _ _ _ (c.in_ok-graph.ensures txns c.committed-txns.ensures).stands) c.in_ok-order.field-0 c.in_ok-order.ensures),
     )
-
-pub of-requires-clause-left : goal.of-requires-clause-left
-of-requires-clause-left c = let w = left_is (goal.at.of-requires-clause-left c).In-Rest in (w.0, w.1, sym (ap (length {A = Bool}) c.deref.ensures.value ∙ w.2.long))
 
 pub overflow_cast-txn : goal.overflow_cast-txn
 overflow_cast-txn c =
@@ -92,13 +86,6 @@ loop-txn-preserved c =
 
 pub cycle_of-requires-clause-ascending : goal.cycle_of-requires-clause-ascending
 cycle_of-requires-clause-ascending c = increasing c.committed-txns.result.now c.committed-txns.ensures.ascending
-
-pub cycle_of-requires-clause-long : goal.cycle_of-requires-clause-long
-cycle_of-requires-clause-long c =
-    let w = left_is (goal.at.cycle_of-requires-clause-long c).In-Rest in
-    let same = ap (length {A = ℕ}) (one_list_by (λ x. x ∷ []) (IsCommitted c.args.evidence.now.index.now) w.0 c.committed-txns.result.now w.1 c.committed-txns.ensures) in
-    let all : length c.loop-txn.previous.items ≡ length c.in-Rest.left.items = (let e = c.loop-txn.invariant.0 in let l = c.loop-txn-test.false in let m = c.loop-txn.auto.txn-end in omega arith) in
-    (ap (length {A = Bool}) c.deref-in-Rest.ensures.value ∙ w.2.long ∙ same, ap (length {A = ℕ}) c.deref-in-Rest-2.ensures.value ∙ all ∙ w.2.long ∙ same)
 
 pub cycle_of-requires-clause-stuck : goal.cycle_of-requires-clause-stuck
 cycle_of-requires-clause-stuck c =

@@ -1,12 +1,11 @@
 use Rattle.std.proofs.Common.{◌≡◌, ◌≢◌, ◌+◌, ◌∷◌, ◌++◌, ◌<◌, [], ℕ, List, true, false, ltb, length, get_or, refl, ap, sym, subst, ◌∙◌, arith}
 use Rattle.std.specs.Prelude.{Contains}
 use Rattle.std.proofs.lemmas.List.Elements.{Contains-get_or}
-use Rattle.sia_index.specs.Between.{IsBetween}
 use Rattle.sia_parts.specs.declared.finding.Edge.{Edge}
 use Rattle.sia_parts.specs.declared.finding.Kind.TheVariants.{Ww}
 use Rattle.sia_parts.specs.Groups.{IsGroup}
 use Rattle.sia_parts.specs.Sights.{Adds, FromSome}
-use Rattle.sia_parts.proofs.Shared.Adding.{FromFirst, added_to_none, adds_push, from_all, from_more, from_none}
+use Rattle.sia_parts.proofs.Shared.Adding.{added_to_none, adds_push, from_all, from_more}
 use Rattle.sia_parts.proofs.OfReasons.Groups.{group_between}
 use Rattle.sia_parts.proofs.OfReasons.InTwoNumbers.{group_holds}
 use Rattle.sia_graph.specs.ListedGraphs.{IsTargetOf}
@@ -22,9 +21,7 @@ none = record { src = 0; dst = 0; kind = Ww; key = 0 }
 
 -- the edges from the id
 group : (c : After-between-edge-items) → IsGroup (λ (e : Edge). e.src) c.args.edges.now (get_or c.args.ids.now c.loop-id.id-index 0) c.between-edge-items.result.now
-group c =
-    group_between (λ (e : Edge). e.src) c.args.edges.now c.between-edge-items.result.now (get_or c.args.ids.now c.loop-id.id-index 0)
-    (subst (λ n. IsBetween (λ (e : Edge). e.src) c.args.edges.now n n c.between-edge-items.result.now) c.from-source.ensures c.between-edge-items.ensures)
+group c = grind (arith, group_between)
 
 pub place_from-requires : goal.place_from-requires
 place_from-requires c = ids_rise c.args.ids.now c.requires.ascending
@@ -41,12 +38,6 @@ member c n below =
     let edge = get_or own n none in
     let there = (group_holds (λ (e : Edge). e.src) edges (get_or c.args.ids.now c.loop-id.id-index 0) own (group c) edge).0 (Contains-get_or own n none below) in
     (all_in (λ (e : Edge). Contains c.args.ids.now e.src × Contains c.args.ids.now e.dst × (e.src ≢ e.dst)) edges edge c.requires.joins there.0).1
-
-pub loop-edge-init : goal.loop-edge-init
-loop-edge-init c =
-    let own = c.between-edge-items.result.now in
-    let ids = c.args.ids.now in
-    subst (λ (l : List ℕ). Adds (FromFirst (IsTargetOf ids) own 0) [] l) (sym c.clear.ensures.items) (from_none (IsTargetOf ids) own [])
 
 pub loop-edge-preserved : goal.loop-edge-preserved
 loop-edge-preserved c =

@@ -19,9 +19,6 @@ use Rattle.sia_graph.proofs.listed_edges.settle.Goals as goal
 pub graph_of-requires-clause-sorted : goal.graph_of-requires-clause-sorted
 graph_of-requires-clause-sorted c = sources_rise c.args.edges.now c.requires.sorted
 
-pub take_nodes-requires-clause-few : goal.take_nodes-requires-clause-few
-take_nodes-requires-clause-few c = let few = c.in_ok-graph.ensures.few in omega arith
-
 pub take_nodes-requires-clause-graph : goal.take_nodes-requires-clause-graph
 take_nodes-requires-clause-graph c = let e : length c.args.ids.now ≡ 0 + length c.args.ids.now = omega arith in subst (λ n. IsGraph n c.in_ok-graph.graph) e c.in_ok-graph.ensures.made.graph
 
@@ -65,14 +62,7 @@ loop-source-init c =
     (λ i l. let at = ap (λ (xs : List ℕ). get_or xs i 0) items ∙ get_or-range_with_len 0 n i 0 l in omega arith)
 
 pub index_mut-requires : goal.index_mut-requires
-index_mut-requires c =
-    let of = c.in_ok-graph.ensures.made in
-    let same = left_long (goal.at.index_mut-requires c).In-Rest c.as_slice-left.result.now c.as_slice-left.ensures.value in
-    let a = target_within c.in_ok-graph.graph (length c.args.ids.now) (c.loop-source.source - 1) c.loop-target.target-index of.graph c.at-target-items.result.now c.at-target-items.ensures c.loop-target-test.true in
-    let b = c.loop-target.invariant.0 in
-    let d = c.loop-source.invariant.0 in
-    let ok = c.loop-target.previous.ok.0 in
-    omega arith
+index_mut-requires c = grind (arith, left_long, target_within)
 
 pub loop-target-preserved : goal.loop-target-preserved
 loop-target-preserved c =
@@ -115,11 +105,6 @@ loop-source-preserved c =
     let out : ¬ IsLeftIn c.as_slice-left.result.now source = λ is. (let e = sym is ∙ c.if-left-source.false in cc) in
     kept_back c.in_ok-graph.graph.targets c.as_slice-left.result.now source c.loop-source.previous.items out
     (subst (λ m. AreLeastFrom c.in_ok-graph.graph.targets c.as_slice-left.result.now m c.loop-source.previous.items) (sym back) c.loop-source.invariant)
-
-pub cycle_of-requires-clause-long : goal.cycle_of-requires-clause-long
-cycle_of-requires-clause-long c =
-    let same = left_long (goal.at.cycle_of-requires-clause-long c).In-Rest c.as_slice-left.result.now c.as_slice-left.ensures.value in
-    (same, ap (length {A = ℕ}) c.deref.ensures.value ∙ c.loop-source.invariant.0 ∙ same)
 
 pub cycle_of-requires-clause-some : goal.cycle_of-requires-clause-some
 cycle_of-requires-clause-some c =

@@ -4,9 +4,9 @@ use Rattle.std.specs.Prelude.{Contains, slice_index}
 use Rattle.std.proofs.lemmas.List.Elements.{Contains-get_or}
 use Rattle.sia_index.specs.Numbers.{IsCommittedAt}
 use Rattle.sia_index.specs.Positions.{HasPosition}
-use Rattle.sia_parts.proofs.Shared.Adding.{from_all, from_more, from_none}
+use Rattle.sia_parts.proofs.Shared.Adding.{from_all, from_more}
 use Rattle.sia_graph.proofs.Shared.AccessLists.{saw_is, saw_position}
-use Rattle.sia_graph.proofs.OfNeighbours.Looks.{IsLaterLook, look_left, look_pushed, looks_below, looks_dealt, looks_more, looks_none}
+use Rattle.sia_graph.proofs.OfNeighbours.Looks.{IsLaterLook, look_left, look_pushed, looks_below, looks_dealt, looks_more}
 use Rattle.sia_parts.proofs.EdgeRows.Readings.{few_txns}
 use Rattle.sia_graph.proofs.neighbours.looks_of.Goals.{After-at-position-items, then-is_some+in_ok-push, else-is_some}
 use Rattle.sia_graph.proofs.neighbours.looks_of.Goals as goal
@@ -25,12 +25,6 @@ position c n below =
 
 pub overflow_cast-reader-end : goal.overflow_cast-reader-end
 overflow_cast-reader-end c = let few = few_txns c.args.evidence.now.index.now c.requires.well_formed c.committed.result.now c.committed.ensures in omega arith
-
-pub loop-reader-init : goal.loop-reader-init
-loop-reader-init c = rw c.new-looks.ensures.items (looks_none c.args.evidence.now.index.now c.args.evidence.now.accesses.now c.requires.accesses)
-
-pub loop-position-init : goal.loop-position-init
-loop-position-init c = from_none (IsLaterLook c.args.evidence.now.index.now c.loop-reader.reader) c.at-position-items.result.now c.loop-reader.looks.items
 
 pub next_position-requires : goal.next_position-requires
 next_position-requires c = position (goal.at.next_position-requires c).After-at-position-items c.loop-position.position-index c.loop-position-test.true

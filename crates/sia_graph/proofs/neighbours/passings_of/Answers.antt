@@ -1,21 +1,15 @@
 -- The next range miss.
 use Rattle.std.proofs.Common.{get_or, rules, refl, arith}
 use Rattle.sia_parts.specs.declared.accesses.RangeMiss.{RangeMiss}
-use Rattle.sia_parts.proofs.Shared.Adding.{from_all, from_more, from_none}
+use Rattle.sia_parts.proofs.Shared.Adding.{from_all, from_more}
 use Rattle.std.proofs.lemmas.List.Sorted.{IsNonDecreasingBy-from_sort_by_key}
 use Rattle.sia_graph.specs.declared.neighbours.Passing.{Passing}
-use Rattle.sia_graph.proofs.OfNeighbours.Passings.{IsPassingOf, passing_pushed, passings_are, passings_more, passings_none}
+use Rattle.sia_graph.proofs.OfNeighbours.Passings.{IsPassingOf, passing_pushed, passings_are, passings_more}
 use Rattle.sia_parts.proofs.EdgeRows.Readings.{few_txns}
 use Rattle.sia_graph.proofs.neighbours.passings_of.Goals as goal
 
 pub overflow_cast-reader-end : goal.overflow_cast-reader-end
 overflow_cast-reader-end c = let few = few_txns c.args.evidence.now.index.now c.requires.well_formed c.committed.result.now c.committed.ensures in omega arith
-
-pub loop-reader-init : goal.loop-reader-init
-loop-reader-init c = rw c.new-passings.ensures.items (passings_none c.args.evidence.now.accesses.now)
-
-pub loop-miss-init : goal.loop-miss-init
-loop-miss-init c = from_none (IsPassingOf c.loop-reader.reader) c.at-miss-items.result.now c.loop-reader.passings.items
 
 pub loop-miss-preserved : goal.loop-miss-preserved
 loop-miss-preserved c =

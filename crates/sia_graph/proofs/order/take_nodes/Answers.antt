@@ -1,4 +1,4 @@
-use Rattle.std.proofs.Common.{◌≡◌, ◌≢◌, ◌+◌, ◌-◌, ◌*◌, ◌<◌, ◌≤◌, ◌∷◌, ◌++◌, ℕ, [], Bool, true, false, not, cond, inl, inr, Ok, Vec, Global, List, drop, get_or, length, map, replicate, set, ap, sym, subst, ◌∙◌, arith, rules, tests}
+use Rattle.std.proofs.Common.{◌≡◌, ◌≢◌, ◌+◌, ◌-◌, ◌*◌, ◌<◌, ◌≤◌, ◌∷◌, ◌++◌, ℕ, [], Bool, true, false, not, cond, Ok, Vec, Global, List, drop, get_or, length, map, replicate, set, ap, sym, subst, ◌∙◌, arith, rules, tests}
 use Rattle.std.specs.Prelude.{◌↔◌, Contains}
 use Rattle.std.specs.Bool.{MatchBool}
 use Rattle.std.specs.List.{AllWithin, HoldsAt, range_with_len}
@@ -22,10 +22,7 @@ many size txns = 2 * size + length txns
 
 -- nothing is done in a list of false alone
 all_false : (n s : ℕ) → get_or (replicate n false) s false ≡ false
-all_false n s = elim (cases_lt s n) [
-  | inl l ↦ get_or-replicate n s false false l
-  | inr m ↦ get_or_past (replicate n false) s false (let e = length-replicate n false in omega arith)
-]
+all_false n s = grind (arith, cases_lt, get_or-replicate, get_or_past, replicate, length-replicate)
 
 pub loop-node-init : goal.loop-node-init
 loop-node-init c =
@@ -67,9 +64,7 @@ within c =
     ready_within (many c.args.size c.args.txns.now) c.args.graph.now c.requires.graph c.loop-node-2.done.items c.loop-node-2.taking is.1 is.0 is.2 is.3 c.in-Some.node c.in-Some.ensures.member
 
 left : (c : In-Some) → (get_or c.loop-node-2.taking.counts.items c.in-Some.node 0 ≡ 0) × ¬ IsDone c.loop-node-2.done.items c.in-Some.node
-left c =
-    let is = c.loop-node-2.invariant in
-    ready_left (many c.args.size c.args.txns.now) c.args.graph.now c.requires.graph c.loop-node-2.done.items c.loop-node-2.taking is.1 is.0 is.2 is.3 c.in-Some.node (within c) c.in-Some.ensures.member
+left c = grind (arith, ready_left, within)
 
 pub index_mut-requires : goal.index_mut-requires
 index_mut-requires c = let l = within (goal.at.index_mut-requires c).In-Some in let e = c.loop-node-2.invariant.3.done_long in let ok = c.loop-node-2.done.ok.0 in omega arith

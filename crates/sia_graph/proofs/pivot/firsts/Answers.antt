@@ -12,7 +12,7 @@ use Rattle.sia_graph.specs.declared.pivot.Link.{Link}
 use Rattle.sia_graph.specs.Late.{IsLastOf}
 use Rattle.sia_graph.proofs.OfPivots.ListedAs.{listed_as}
 use Rattle.sia_graph.proofs.OfPivots.Overlaps.{lived}
-use Rattle.sia_graph.proofs.OfPivots.Picked.{all_picked, none_picked, picked_more, picked_same}
+use Rattle.sia_graph.proofs.OfPivots.Picked.{all_picked, picked_more, picked_same}
 use Rattle.sia_graph.proofs.OfPivots.EarlyOuts.{EntersAt, first_by, last_same}
 use Rattle.sia_graph.proofs.OfPivots.Vulnerable.{CommitsIn, ins_commit, outs_named}
 use Rattle.sia_graph.proofs.Shared.Numbered.{txn_number}
@@ -52,9 +52,6 @@ bounds-txns-out c =
     let link = get_or c.args.outs.now c.loop-out.out-index none in
     let v = (c.requires.outs.each link).0 (Contains-get_or c.args.outs.now c.loop-out.out-index none c.loop-out-test.true) in
     (txn_number c.args.ix.now c.committed-txns.result.now c.committed-txns.ensures link.other v.1.1 v.1.3).0
-
-pub loop-out-init : goal.loop-out-init
-loop-out-init c t at = rw c.new-firsts.ensures.items (none_picked (λ u. u ∷ []) (IsFirst c.args.ix.now t) (map (λ (link : Link). slice_index c.committed-txns.result.now link.other) c.args.outs.now))
 
 -- each of the outs is a first exactly if it commits early enough
 early : (c : After-min-last) → (t : ℕ) → IsCommittedAt c.args.ix.now c.args.txn t → (n : ℕ) → n < length c.args.outs.now

@@ -13,15 +13,14 @@ use Rattle.sia_index.specs.Numbers.{IsCommittedAt}
 use Rattle.sia_parts.specs.declared.finding.Edge.{Edge}
 use Rattle.sia_parts.specs.declared.finding.Kind.TheVariants.{Ww}
 use Rattle.sia_parts.proofs.CutKeys.StartLemmas.{increasing}
-use Rattle.sia_parts.proofs.Shared.Adding.{added_are, adds_nothing, adds_push, from_all, from_more, from_none}
+use Rattle.sia_parts.proofs.Shared.Adding.{added_are, adds_nothing, adds_push, from_all, from_more}
 use Rattle.sia_parts.specs.Sights.{Adds, FromSome}
 use Rattle.sia_graph.specs.declared.pivot.Pivot.{Pivot}
-use Rattle.sia_graph.specs.declared.pivot.Link.{Link}
 use Rattle.sia_graph.specs.Links.{IsVulnerableAt, ListsLinks, link_rank}
 use Rattle.sia_graph.specs.Pivots.{ListsNeighbours}
 use Rattle.sia_graph.proofs.OfPivots.ListedAs.{listed_as, listed_in_order}
 use Rattle.sia_graph.proofs.OfPivots.LinkLists.{by_link, dealt_listed, length-dealt, link_before, some_link}
-use Rattle.sia_graph.proofs.OfPivots.Picked.{all_picked, none_picked, picked_more, picked_same}
+use Rattle.sia_graph.proofs.OfPivots.Picked.{all_picked, picked_more, picked_same}
 use Rattle.sia_graph.proofs.OfPivots.Vulnerable.{IsLinkOf, ins_named, is_pivot, links_of_edges, outs_named, source_committed}
 use Rattle.sia_graph.proofs.Shared.AscendingIds.{found_position, ids_rise}
 use Rattle.sia_graph.proofs.Shared.Numbered.{txn_number}
@@ -53,9 +52,6 @@ overflow_cast-other c =
     let few = few_txns c.args.ix.now c.law.ensures c.committed-txns.result.now c.committed-txns.ensures in
     let most = c.place_from-other.ensures.bound in
     omega arith
-
-pub loop-e-init : goal.loop-e-init
-loop-e-init c = rw c.new-links.ensures.items (from_none (IsLinkOf c.args.ix.now) c.deref-e-items.result.now [])
 
 pub loop-e-preserved : goal.loop-e-preserved
 loop-e-preserved c =
@@ -104,16 +100,10 @@ deal-requires-2 c = record {
 }
 
 pub at-ins-requires : goal.at-ins-requires
-at-ins-requires c =
-    let long = ap (length {A = List Link}) c.in_ok-into.ensures ∙ length-dealt (λ l. l.other) (length c.committed-txns.result.now) c.deref.result.now in
-    let below = c.loop-txn-test.true in
-    omega arith
+at-ins-requires c = grind (arith, length-dealt)
 
 pub at-outs-requires : goal.at-outs-requires
-at-outs-requires c =
-    let long = ap (length {A = List Link}) c.in_ok-out.ensures ∙ length-dealt (λ l. l.at) (length c.committed-txns.result.now) c.deref-2.result.now in
-    let below = c.loop-txn-test.true in
-    omega arith
+at-outs-requires c = grind (arith, length-dealt)
 
 -- the vulnerable edges to the number, and from it
 ins : (c : After-at-outs) → ListsLinks (IsVulnerableAt c.args.ix.now) c.put_in_order.new.list.items → ListsLinks (λ i j. (j ≡ c.loop-txn.txn) × IsVulnerableAt c.args.ix.now i j) c.at-ins.result.now
@@ -140,9 +130,6 @@ firsts-requires-clause-outs c = outs (goal.at.firsts-requires-clause-outs c).Aft
 
 pub firsts-requires-clause-txn : goal.firsts-requires-clause-txn
 firsts-requires-clause-txn c = (get_or c.committed-txns.result.now c.loop-txn.txn 0, (c.committed-txns.result.now, c.committed-txns.ensures, c.loop-txn-test.true, refl))
-
-pub loop-txn-init : goal.loop-txn-init
-loop-txn-init c = rw c.new-found.ensures.items (none_picked (λ t. t ∷ []) (IsPivot c.args.ix.now) c.committed-txns.result.now, λ k d l. absurd (omega arith))
 
 pub loop-txn-preserved : goal.loop-txn-preserved
 loop-txn-preserved c =

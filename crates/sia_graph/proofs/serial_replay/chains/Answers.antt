@@ -18,15 +18,4 @@ loop-before-preserved-in_ok-insert c =
     is u
 
 pub loop-before-preserved : goal.loop-before-preserved
-loop-before-preserved c =
-    absurd (there_is_one c.args.h.now (c.loop-before.before - 1) (let a = c.loop-before.auto.before in let b = c.len-before.ensures.len in let l = c.loop-before-test.true in omega arith) c.in_default.ensures)
-
-pub returns-clause-firsts : goal.returns-clause-firsts
-returns-clause-firsts c =
-    let zero : c.loop-before.before ≡ 0 = let a = c.loop-before-test.false in omega arith in
-    subst (λ n. AreFirsts c.args.h.now n c.loop-before.firsts) zero c.loop-before.invariant.0
-
-pub returns-clause-next : goal.returns-clause-next
-returns-clause-next c =
-    let zero : c.loop-before.before ≡ 0 = let a = c.loop-before-test.false in omega arith in
-    subst (λ n. AreNext c.args.h.now n c.loop-before.next.items) zero c.loop-before.invariant.1
+loop-before-preserved c = grind (arith, there_is_one)

@@ -5,14 +5,11 @@ use Rattle.std.proofs.lemmas.Bool.{false≢true}
 use Rattle.sia_events.specs.declared.event.Event.{Event}
 use Rattle.sia_events.specs.Replay.{IsOrder, serial}
 use Rattle.std.proofs.lemmas.List.{drop_all}
-use Rattle.sia_graph.specs.Replaying.{AreNext, Tells, version_in}
-use Rattle.sia_graph.proofs.ReplayedTxns.MapSteps.{all_taken, none_of, none_taken, not_taken, some_of, taken_more}
+use Rattle.sia_graph.specs.Replaying.{Tells, version_in}
+use Rattle.sia_graph.proofs.ReplayedTxns.MapSteps.{all_taken, none_of, not_taken, some_of, taken_more}
 use Rattle.sia_graph.proofs.ReplayedTxns.Replayed.{serial_at, told_serial}
 use Rattle.sia_graph.proofs.serial_replay.replay.Goals.{After-is_empty}
 use Rattle.sia_graph.proofs.serial_replay.replay.Goals as goal
-
-pub loop-txn-init : goal.loop-txn-init
-loop-txn-init c = none_taken c.args.h.now c.args.order.now c.in_ok-left.left c.in_ok-left.ensures
 
 pub returns-then-is_none-clause-not_an_order : goal.returns-then-is_none-clause-not_an_order
 returns-then-is_none-clause-not_an_order c =
@@ -49,19 +46,8 @@ returns-in-Some-clause-replays c =
     (subst (λ (l : List (ℕ × Event)). Tells h (version_in c.loop-txn-2.versions) l (Some m)) (sym (serial_at h order i 0 c.loop-txn-2-test.true))
     (c.in_ok-mismatch.ensures.wrong m c.in-Some.is (serial h (drop (i + 1) order)))))
 
-pub replay_txn-requires-clause-next : goal.replay_txn-requires-clause-next
-replay_txn-requires-clause-next c = subst (AreNext c.args.h.now 0) (sym c.as_slice-places.ensures.value) c.in_ok-firsts.ensures.next
-
 pub loop-txn-2-preserved : goal.loop-txn-2-preserved
-loop-txn-2-preserved c =
-    let h = c.args.h.now in
-    let order = c.args.order.now in
-    let i = c.loop-txn-2.txn-index in (
-      c.in_ok-mismatch.ensures.written,
-      λ r told. c.loop-txn-2.invariant.1 r
-          (subst (λ (l : List (ℕ × Event)). Tells h (version_in c.loop-txn-2.versions) l r) (sym (serial_at h order i 0 c.loop-txn-2-test.true))
-          (c.in_ok-mismatch.ensures.right c.in_default.is (serial h (drop (i + 1) order)) r told)),
-    )
+loop-txn-2-preserved c = grind (arith, serial_at)
 
 pub returns-clause-replays : goal.returns-clause-replays
 returns-clause-replays c =

@@ -1,14 +1,13 @@
-use Rattle.std.proofs.Common.{◌≡◌, ◌<◌, inl, inr, ℕ, false, cond, List, Some, unwrap_or, refl, get_or, ap, sym, ◌∙◌, subst, arith}
+use Rattle.std.proofs.Common.{◌≡◌, ◌<◌, ℕ, false, cond, List, Some, unwrap_or, get_or, ap, sym, ◌∙◌, subst, arith}
 use Rattle.std.proofs.lemmas.Option.{same_Some}
 use Rattle.std.specs.BTreeMap.{BTreeMap, Updates}
 use Rattle.std.specs.Ordering.{nat_cmp}
 use Rattle.std.proofs.lemmas.Bool.{cases_eq, eq-eqb, ne_eqb}
 use Rattle.sia_events.specs.declared.event.Event.{Event}
-use Rattle.sia_events.specs.declared.event.Event.TheVariants.{Abort, Begin, Commit, Range, Read, Write}
+use Rattle.sia_events.specs.declared.event.Event.TheVariants.{Write}
 use Rattle.sia_events.specs.Events.{actor}
 use Rattle.sia_events.specs.Places.{at_place}
 use Rattle.sia_events.specs.Replay.{is_write_of}
-use Rattle.sia_events.specs.Transactions.{Wrote}
 use Rattle.sia_graph.proofs.ReplayedTxns.MapSteps.{get_other, get_same}
 use Rattle.sia_graph.specs.declared.serial_replay.Mismatch.{Mismatch}
 use Rattle.sia_graph.specs.Replaying.{AreWritten, after, version_in}
@@ -38,25 +37,14 @@ loop-at-smaller c = fewer_places c.args.h.now c.args.txn (version_in c.args.vers
 
 -- a write puts its transaction at its key, where it was written
 kept : (old new : BTreeMap ℕ ℕ) (t key : ℕ) → Updates nat_cmp old new key (Some t) → (k : ℕ) → version_in new k ≡ after (version_in old) (Write t key) k
-kept old new t key u k = elim (cases_eq key k) [
-  | inl e ↦ ap (λ o. unwrap_or o 0) (get_same old new key (Some t) u k e) ∙ sym (ap (λ b. cond b t (version_in old k)) (eq-eqb k key (sym e)))
-  | inr n ↦ ap (λ o. unwrap_or o 0) (get_other old new key (Some t) u k n) ∙ sym (ap (λ b. cond b t (version_in old k)) (ne_eqb k key (λ e. n (sym e))))
-]
+kept old new t key u k = grind (arith, cases_eq, unwrap_or, get_same, eq-eqb, get_other, ne_eqb)
 
 -- another event changes nothing
 no_write : (e : Event) → ((t key : ℕ) → e ≡ Write t key → ⊥) → (k : ℕ) → is_write_of k e ≡ false
-no_write (Write t key) none k = absurd (none t key refl)
-no_write (Begin t start) none k = refl
-no_write (Read t key saw) none k = refl
-no_write (Range t lo hi listed) none k = refl
-no_write (Commit t) none k = refl
-no_write (Abort t) none k = refl
+no_write e p k = grind arith
 
 written : (h : List Event) (old new : BTreeMap ℕ ℕ) (t key p : ℕ) → Updates nat_cmp old new key (Some t) → at_place h p ≡ Some (Write t key) → AreWritten h old → AreWritten h new
-written h old new t key p u there before k v has = elim (cases_eq key k) [
-  | inl e ↦ let same = same_Some t v (sym (get_same old new key (Some t) u k e) ∙ has) in subst (λ q. Wrote h v q) e (subst (λ s. Wrote h s key) same (p, there))
-  | inr n ↦ before k v (sym (get_other old new key (Some t) u k n) ∙ has)
-]
+written h old new t key p u there before k v has = grind (arith, cases_eq, same_Some, get_same, get_other)
 
 pub loop-at-preserved : goal.loop-at-preserved
 loop-at-preserved c =

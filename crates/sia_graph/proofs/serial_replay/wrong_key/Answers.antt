@@ -1,4 +1,4 @@
-use Rattle.std.proofs.Common.{arith, ◌≡◌, ◌≢◌, inl, inr, ltb, leb, unwrap_or, ◌<◌, ◌≤◌, ℕ, List, Option, None, Some, refl, ap, sym, subst, ◌∙◌, map}
+use Rattle.std.proofs.Common.{arith, ◌≡◌, ◌≢◌, inl, inr, ltb, leb, unwrap_or, ◌<◌, ◌≤◌, ℕ, List, Option, Some, refl, ap, sym, subst, ◌∙◌}
 use Rattle.std.specs.Prelude.{◌↔◌, All, IsTrue, MatchOption}
 use Rattle.std.proofs.lemmas.Bool.{cases_lt, le-leb, le-ltb, lt-leb, lt-ltb}
 use Rattle.std.specs.Bool.{then_some}
@@ -6,30 +6,23 @@ use Rattle.sia_events.specs.declared.event.Event.{Event}
 use Rattle.sia_events.specs.declared.event.Event.TheVariants.{Range, Write}
 use Rattle.sia_events.specs.Replay.{MayFollow}
 use Rattle.sia_graph.specs.Replaying.{IsRight, IsWrongAt, version_in}
-use Rattle.std.specs.List.Sorted.{IsStrictlyIncreasing}
 use Rattle.sia_events.proofs.Writing.Ranges.{bounds_in_order, list_in_order}
 use Rattle.sia_graph.proofs.ReplayedTxns.RightAt.{follows_iff, least_wrong, none_listed_wrong, write_right}
 use Rattle.sia_graph.proofs.serial_replay.wrong_key.Goals as goal
 
 pub wrong_unlisted-unlisted-requires-clause-forward : goal.wrong_unlisted-unlisted-requires-clause-forward
-wrong_unlisted-unlisted-requires-clause-forward c =
-    bounds_in_order c.args.h.now c.len-events.ensures.well_formed c.requires.event.0 c.in-Range.txn c.in-Range.lo c.in-Range.hi c.in-Range.listed (c.requires.event.1 ∙ ap Some c.in-Range.is)
+wrong_unlisted-unlisted-requires-clause-forward c = grind (arith, bounds_in_order)
 
 pub wrong_unlisted-unlisted-requires-clause-listed : goal.wrong_unlisted-unlisted-requires-clause-listed
-wrong_unlisted-unlisted-requires-clause-listed c =
-    subst (λ l. IsStrictlyIncreasing (map (λ (p : ℕ × ℕ). p.0) l)) (sym c.as_slice-listed.ensures)
-    (list_in_order c.args.h.now c.len-events.ensures.well_formed c.requires.event.0 c.in-Range.txn c.in-Range.lo c.in-Range.hi c.in-Range.listed (c.requires.event.1 ∙ ap Some c.in-Range.is)).1
+wrong_unlisted-unlisted-requires-clause-listed c = grind (arith, list_in_order)
 
 pub wrong_listed-requires : goal.wrong_listed-requires
-wrong_listed-requires c =
-    subst (λ l. IsStrictlyIncreasing (map (λ (p : ℕ × ℕ). p.0) l)) (sym c.as_slice-listed.ensures)
-    (list_in_order c.args.h.now c.len-events.ensures.well_formed c.requires.event.0 c.in-Range.txn c.in-Range.lo c.in-Range.hi c.in-Range.listed (c.requires.event.1 ∙ ap Some c.in-Range.is)).1
+wrong_listed-requires c = grind (arith, list_in_order)
 
 -- of an event what was found at the least key
 told : (h : List Event) (found : ℕ → ℕ) (e : Event) (r : Option ℕ) → MatchOption r ((k : ℕ) → IsRight h found e k) (λ key. ¬ IsRight h found e key × ((k : ℕ) → k < key → IsRight h found e k))
     → MatchOption r ((k : ℕ) → IsRight h found e k) (λ key. IsWrongAt h found e key (found key))
-told h found e None right = right
-told h found e (Some key) wrong = (wrong.0, wrong.1, refl)
+told h found e r p = grind arith
 
 -- the same of a range, whose list is this slice
 range_told : (h : List Event) (found : ℕ → ℕ) (t lo hi : ℕ) (listed slice : List (ℕ × ℕ)) → slice ≡ listed → (e : Event) → e ≡ Range t lo hi listed → (r : Option ℕ)
@@ -65,8 +58,7 @@ write_told h found t key c d r is may = elim (cases_lt c d) [
 ]
 
 present : (o : Option ℕ) (v : ℕ) → v ≡ unwrap_or o 0 → v ≢ 0 → o ≡ Some v
-present None v is some = absurd (some is)
-present (Some w) v is some = ap Some (sym is)
+present o v p q = grind arith
 
 pub returns-in-Some-Some : goal.returns-in-Some-Some
 returns-in-Some-Some c =

@@ -1,4 +1,4 @@
-use Rattle.std.proofs.Common.{◌≡◌, ℕ, get_or, ap, sym, ◌∙◌, subst, arith}
+use Rattle.std.proofs.Common.{◌≡◌, ℕ, get_or, ap, sym, ◌∙◌}
 use Rattle.std.proofs.lemmas.List.{get_or_default}
 use Rattle.sia_graph.specs.Replaying.{version_in}
 use Rattle.sia_graph.proofs.ReplayedTxns.RightAt.{before_key}
@@ -15,10 +15,3 @@ returns-then-version_of-saw c =
           let e : get_or listed d.0 (0, 0) ≡ (k, v) = get_or_default listed d.0 (0, 0) (k, v) d.1 ∙ d.2 in
           sym (ap (λ (q : ℕ × ℕ). q.1) e) ∙ c.loop-key.invariant d.0 (0, 0) less ∙ ap (λ (q : ℕ × ℕ). version_in c.args.versions.now q.0) e,
     )
-
-pub loop-key-init : goal.loop-key-init
-loop-key-init c i d l = absurd (omega arith)
-
-pub returns : goal.returns
-returns c k v has =
-    subst (λ (p : ℕ × ℕ). p.1 ≡ version_in c.args.versions.now p.0) has.2 (c.loop-key.invariant has.0 (k, v) (let l = has.1 in let end = c.loop-key-test.false in omega arith))

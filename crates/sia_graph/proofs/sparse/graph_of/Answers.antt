@@ -1,6 +1,5 @@
-use Rattle.std.proofs.Common.{◌≡◌, ◌≢◌, ◌∷◌, [], ◌++◌, ◌*◌, ◌+◌, ◌-◌, ◌<◌, ◌≤◌, inl, inr, ℕ, Vec, Global, List, Some, length, get_or, refl, ap, sym, subst, ◌∙◌, arith}
+use Rattle.std.proofs.Common.{◌≡◌, ◌≢◌, ◌∷◌, [], ◌++◌, ◌*◌, ◌+◌, ◌-◌, ◌<◌, ◌≤◌, ℕ, Vec, Global, List, Some, length, get_or, refl, ap, sym, subst, ◌∙◌, arith}
 use Rattle.std.specs.Prelude.{◌↔◌, Contains}
-use Rattle.std.proofs.lemmas.List.Elements.{Contains-push_cases}
 use Rattle.sia_events.specs.declared.event.Event.{Event}
 use Rattle.sia_parts.specs.Sights.{Adds}
 use Rattle.sia_events.specs.Transactions.{IsCommitted}
@@ -18,26 +17,10 @@ use Rattle.sia_graph.proofs.sparse.graph_of.Goals as goal
 
 -- a block leads to its halves, and the block 0 nowhere
 halves : (h : List Event) (size b : ℕ) → 0 < b → b < size → (n : ℕ) → Contains ((2 * b) ∷ (2 * b + 1) ∷ []) n ↔ IsBlockStep h size b n
-halves h size b some below n = (
-  (λ c. inl (
-    some,
-    below,
-    elim (Contains-push_cases ((2 * b) ∷ []) (2 * b + 1) n c) [
-      | inl d ↦ elim (Contains-push_cases [] (2 * b) n d) [ inl none ↦ absurd (let l = none.1 in omega arith) | inr e ↦ inl (sym e) ]
-      | inr e ↦ inr (sym e)
-    ],
-  )),
-  (λ is. elim is [
-    | inl w ↦ elim w.2 [ inl e ↦ (0, omega arith, sym e) | inr e ↦ (1, omega arith, sym e) ]
-    | inr w ↦ let e = w.2 in absurd (omega arith)
-  ]),
-)
+halves h size b some below n = grind arith
 
 nowhere : (h : List Event) (size b : ℕ) → b ≤ 0 → b < size → (n : ℕ) → Contains [] n ↔ IsBlockStep h size b n
-nowhere h size b none below n = (
-  (λ c. absurd (let l = c.1 in omega arith)),
-  (λ is. elim is [ inl w ↦ let some = w.0 in absurd (omega arith) | inr w ↦ let e = w.2 in absurd (omega arith) ]),
-)
+nowhere h size b none below n = grind arith
 
 pub put_other-requires : goal.put_other-requires
 put_other-requires c =

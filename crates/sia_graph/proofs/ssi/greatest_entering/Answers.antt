@@ -1,11 +1,8 @@
 use Rattle.std.proofs.Common.{arith, get_or}
 use Rattle.std.proofs.lemmas.List.Elements.{Contains-get_or}
-use Rattle.sia_graph.proofs.SsiTest.Entering.{entering_all, entering_more, entering_none}
+use Rattle.sia_graph.proofs.SsiTest.Entering.{entering_all, entering_more}
 use Rattle.sia_graph.proofs.Shared.PositionTwos.{positions_below}
 use Rattle.sia_graph.proofs.ssi.greatest_entering.Goals as goal
-
-pub loop-position-init : goal.loop-position-init
-loop-position-init c values are = entering_none c.args.index.now values c.args.late.now are c.made_by-position-items.result.now
 
 pub bounds-late-position : goal.bounds-late-position
 bounds-late-position c =

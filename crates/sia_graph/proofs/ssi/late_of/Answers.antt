@@ -41,9 +41,6 @@ pub raise_stands-requires-clause-own : goal.raise_stands-requires-clause-own
 raise_stands-requires-clause-own c =
     subst (λ (l : List ℕ). (j : ℕ) → Contains l j ↔ IsOwnPassed c.args.evidence.now.index.now c.args.evidence.now.accesses.now c.loop-txn.txn j) (sym c.deref.ensures.value) c.in_ok-fill.ensures.own
 
-pub raise_stands-requires-clause-table : goal.raise_stands-requires-clause-table
-raise_stands-requires-clause-table c = c.loop-txn.invariant.0.long
-
 pub put_all_blocks-requires : goal.put_all_blocks-requires
 put_all_blocks-requires c = let e = c.args.evidence.now in let few = size_few c.size_for-size.result e.index.now e.accesses.now c.requires.evidence.well_formed c.size_for-size.ensures in omega arith
 

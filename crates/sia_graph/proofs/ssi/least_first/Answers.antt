@@ -7,15 +7,12 @@ use Rattle.sia_index.specs.Numbers.{IsCommittedAt}
 use Rattle.sia_graph.specs.Dangerous.{IsLeast, MayBeFirst}
 use Rattle.sia_index.specs.declared.info.Lifetime.{Lifetime}
 use Rattle.sia_graph.specs.EarlyVersions.{AreValuesFrom}
-use Rattle.sia_graph.proofs.SsiTest.EarlyFirsts.{values_more, values_none}
+use Rattle.sia_graph.proofs.SsiTest.EarlyFirsts.{values_more}
 use Rattle.sia_graph.specs.Late.{AreLate, Enters, IsLastOf}
 use Rattle.sia_graph.proofs.SsiTest.FoundFirsts.{first_fits, first_least}
 use Rattle.sia_parts.proofs.EdgeRows.Readings.{few_txns}
 use Rattle.sia_graph.proofs.ssi.least_first.Goals.{After-greatest_entering, After-loop-txn, then-place-commit, else-place-commit}
 use Rattle.sia_graph.proofs.ssi.least_first.Goals as goal
-
-pub loop-txn-init : goal.loop-txn-init
-loop-txn-init c = (values_none c.args.place c.lifetimes-lifetimes.result.now c.in_ok-values.values.items c.in_ok-values.ensures.items, omega arith)
 
 pub loop-txn-preserved : goal.loop-txn-preserved
 loop-txn-preserved c =
@@ -35,16 +32,10 @@ overflow_cast-left c =
 
 -- each has its value
 values_are : (c : After-loop-txn) → AreValuesFrom c.args.place c.lifetimes-lifetimes.result.now c.loop-txn.values.items (length c.lifetimes-lifetimes.result.now)
-values_are c =
-    let lifetimes = c.lifetimes-lifetimes.result.now in
-    let all : c.loop-txn.txn ≡ length lifetimes = let l = c.loop-txn-test.false in let m = c.loop-txn.invariant.1 in omega arith in
-    subst (λ n. AreValuesFrom c.args.place lifetimes c.loop-txn.values.items n) all c.loop-txn.invariant.0
+values_are c = grind arith
 
 pub late_of-requires-clause-values : goal.late_of-requires-clause-values
-late_of-requires-clause-values c =
-    let txns = c.committed-txns.result.now in
-    let long = (values_are (goal.at.late_of-requires-clause-values c).After-loop-txn).long in
-    (txns, c.committed-txns.ensures, ap (length {A = ℕ}) c.deref.ensures.value ∙ long ∙ (c.lifetimes-lifetimes.ensures txns c.committed-txns.ensures).long)
+late_of-requires-clause-values c = grind (arith, values_are)
 
 pub overflow_cast-result : goal.overflow_cast-result
 overflow_cast-result c = let few = few_txns c.args.evidence.now.index.now c.requires.evidence.well_formed c.committed-txns.result.now c.committed-txns.ensures in omega arith

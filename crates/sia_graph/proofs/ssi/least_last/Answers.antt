@@ -1,4 +1,4 @@
-use Rattle.std.proofs.Common.{◌≡◌, ◌≢◌, inl, inr, ℕ, List, ◌<◌, ◌≤◌, length, get_or, replicate, set, refl, ap, sym, subst, ◌∙◌, arith}
+use Rattle.std.proofs.Common.{◌≡◌, ◌≢◌, inl, inr, ℕ, List, ◌<◌, ◌≤◌, length, get_or, replicate, set, refl, sym, subst, ◌∙◌, arith}
 use Rattle.std.specs.Prelude.{◌↔◌}
 use Rattle.std.proofs.lemmas.Bool.{cases_lt}
 use Rattle.std.proofs.lemmas.List.{get_or-set_other, get_or-set_same, length-replicate}
@@ -38,10 +38,7 @@ module _ (c : In_ok-late) where
   zeros = c.in_ok-values.ensures.items_if_clones_equal (λ y e. e)
 
   marked : get_or values c.args.pivot 0 ≡ 1
-  marked =
-      let p = c.requires.pivot in
-      let l = (txn_number h txns c.committed-count.ensures c.args.pivot p.0 p.1).0 in
-      get_or-set_same c.in_ok-values.values.items c.args.pivot 1 0 (let long = ap (length {A = ℕ}) zeros ∙ length-replicate (length txns) 0 in omega arith)
+  marked = grind (arith, txn_number, get_or-set_same, zeros, length-replicate)
 
   others : (i : ℕ) → i ≢ c.args.pivot → get_or values i 0 ≡ 0
   others i other = get_or-set_other c.in_ok-values.values.items c.args.pivot i 1 0 other ∙ none_there (length txns) i c.in_ok-values.values.items zeros

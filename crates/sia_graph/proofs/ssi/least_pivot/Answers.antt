@@ -1,8 +1,7 @@
-use Rattle.std.proofs.Common.{◌≡◌, inl, inr, ℕ, ◌-◌, ◌<◌, List, Ok, length, get_or, map, min, refl, ap, sym, subst, ◌∙◌, arith, rules}
+use Rattle.std.proofs.Common.{◌≡◌, inl, inr, ℕ, ◌-◌, ◌<◌, List, Ok, get_or, map, min, refl, sym, subst, ◌∙◌, arith, rules}
 use Rattle.std.proofs.lemmas.Bool.{cases_lt, false≢true}
 use Rattle.std.proofs.lemmas.Iterator.{YieldsList-from_map, YieldsList-from_slice, items_from_collect}
 use Rattle.std.proofs.lemmas.Iterator.Consumers.{YieldsList-at}
-use Rattle.std.proofs.lemmas.List.{length-map}
 use Rattle.sia_events.specs.declared.event.Event.{Event}
 use Rattle.sia_events.specs.Transactions.{CommitsAt}
 use Rattle.sia_events.proofs.OfLaws.Looks.{commits_above}
@@ -26,13 +25,6 @@ commits_are : (c : In_ok-commits) → c.in_ok-commits.commits.items ≡ map comm
 commits_are c =
     items_from_collect {E = ℕ} (Ok c.in_ok-commits.commits) c.in_ok-commits.ensures.ran
     (YieldsList-from_map _ commit_of (YieldsList-at c.map.ensures.source (YieldsList-from_slice c.lifetimes-lifetimes.result.now c.iter.ensures.rest)) c.map.ensures.closure (λ x r q k. search rules))
-
-pub late_of-requires-clause-values : goal.late_of-requires-clause-values
-late_of-requires-clause-values c =
-    let txns = c.committed-txns.result.now in
-    let is = commits_are (goal.at.late_of-requires-clause-values c).In_ok-commits in
-    let lifetimes = c.lifetimes-lifetimes.result.now in
-    (txns, c.committed-txns.ensures, ap (length {A = ℕ}) (c.deref.ensures.value ∙ is) ∙ length-map lifetimes commit_of ∙ (c.lifetimes-lifetimes.ensures txns c.committed-txns.ensures).long)
 
 -- the commits of all, and the limit of one
 module _ (c : In_ok-late) (commits_is : c.in_ok-commits.commits.items ≡ map commit_of c.lifetimes-lifetimes.result.now) where

@@ -4,9 +4,9 @@ use Rattle.std.proofs.lemmas.List.Elements.{Contains-get_or}
 use Rattle.sia_events.specs.declared.event.Event.{Event}
 use Rattle.sia_index.specs.Positions.{ArePositions, HasPosition}
 use Rattle.sia_graph.specs.Late.{IsRaised, StandsAt}
-use Rattle.sia_graph.proofs.Shared.AccessLists.{saw_inside, saw_is, saw_position}
+use Rattle.sia_graph.proofs.Shared.AccessLists.{saw_is, saw_position}
 use Rattle.sia_graph.proofs.Shared.PositionTwos.{positions_below}
-use Rattle.sia_graph.proofs.SsiTest.Stands.{IsOwnFirst, IsSeenFirst, own_all, own_more, seen_all, seen_more, seen_none, stands_there}
+use Rattle.sia_graph.proofs.SsiTest.Stands.{IsOwnFirst, IsSeenFirst, own_all, own_more, seen_all, seen_more, stands_there}
 use Rattle.sia_graph.proofs.ssi.raise_stands.Goals.{After-at-position-items, After-first_position}
 use Rattle.sia_graph.proofs.ssi.raise_stands.Goals as goal
 
@@ -22,12 +22,6 @@ seen_there c n inside =
     saw_position e.index.now e.accesses.now c.requires.evidence.accesses c.args.txn c.requires.txn.0 c.requires.txn.1 q
     ((saw_is e.index.now e.accesses.now c.requires.evidence.accesses c.args.txn c.requires.txn.0 c.requires.txn.1 q).0
     (subst (λ (l : List ℕ). Contains l q) c.at-position-items.ensures (Contains-get_or saw n 0 inside)))
-
-pub at-position-items-requires : goal.at-position-items-requires
-at-position-items-requires c = let e = c.args.evidence.now in saw_inside e.index.now e.accesses.now c.requires.evidence.accesses c.args.txn c.requires.txn.0 c.requires.txn.1
-
-pub loop-position-init : goal.loop-position-init
-loop-position-init c = seen_none c.args.evidence.now.index.now c.args.txn c.at-position-items.result.now c.args.table.now c.args.to
 
 pub stand_of-requires : goal.stand_of-requires
 stand_of-requires c = seen_there (goal.at.stand_of-requires c).After-at-position-items c.loop-position.position-index c.loop-position-test.true

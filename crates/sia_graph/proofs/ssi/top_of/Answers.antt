@@ -1,10 +1,7 @@
 use Rattle.std.proofs.Common.{◌≡◌, ◌+◌, get_or, inl, inr, subst, arith}
 use Rattle.std.proofs.lemmas.Bool.{cases_lt}
-use Rattle.sia_graph.proofs.SsiTest.Marks.{IsRising, rises_from, rises_on, risen}
+use Rattle.sia_graph.proofs.SsiTest.Marks.{IsRising, rises_on, risen}
 use Rattle.sia_graph.proofs.ssi.top_of.Goals as goal
-
-pub loop-block-init : goal.loop-block-init
-loop-block-init c = rises_from c.args.size (c.args.size + c.args.key) c.args.most.now
 
 pub loop-block-preserved : goal.loop-block-preserved
 loop-block-preserved c =

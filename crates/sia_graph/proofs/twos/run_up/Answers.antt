@@ -4,12 +4,6 @@ use Rattle.sia_graph.proofs.TwoLeast.EnteredTwos.{run_first, run_next}
 use Rattle.sia_graph.proofs.Shared.PositionTwos.{below_positions}
 use Rattle.sia_graph.proofs.twos.run_up.Goals as goal
 
-pub loop-position-init : goal.loop-position-init
-loop-position-init c entries few are = record {
-  below = λ q d l. absurd (omega arith);
-  above = λ q d l. are q d;
-}
-
 pub position_before-requires : goal.position_before-requires
 position_before-requires c = below_positions c.args.index.now c.position_count-position-end.result c.loop-position.position c.position_count-position-end.ensures c.loop-position-test.true
 

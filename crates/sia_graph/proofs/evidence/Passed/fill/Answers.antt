@@ -7,10 +7,10 @@ use Rattle.std.proofs.lemmas.List.Elements.{Contains-get_or}
 use Rattle.sia_parts.specs.declared.accesses.RangeMiss.{RangeMiss}
 use Rattle.sia_parts.specs.Sights.{Adds}
 use Rattle.sia_graph.specs.Passed.{IsHeldBy}
-use Rattle.sia_graph.proofs.Shared.AccessLists.{few_missed, held_passed, missed_inside, missed_is, own_passed}
+use Rattle.sia_graph.proofs.Shared.AccessLists.{few_missed, held_passed, missed_is, own_passed}
 use Rattle.sia_parts.proofs.Shared.Adding.{adds_nothing, adds_push}
 use Rattle.sia_graph.proofs.OnEvidence.JoinedMisses.{joined_held, joined_more, joined_none, joined_own}
-use Rattle.sia_graph.proofs.OnEvidence.PassedKeys.{HasCutTo, IsNextKey, cut_held, cut_more, cut_none, cut_own, next_key}
+use Rattle.sia_graph.proofs.OnEvidence.PassedKeys.{HasCutTo, IsNextKey, cut_held, cut_more, cut_own, next_key}
 use Rattle.std.proofs.lemmas.Bool.{cases_lt}
 use Rattle.sia_graph.proofs.evidence.Passed.fill.Goals.{After-loop-miss, After-min-next, After-sort_unstable_by_key, then-next-miss+in_ok-push-2, else-next-miss}
 use Rattle.sia_graph.proofs.evidence.Passed.fill.Goals as goal
@@ -27,9 +27,6 @@ same c miss =
       (λ has. subst (λ (l : List RangeMiss). Contains l miss) (is_all c) (Contains-permutation ys xs miss (IsPermutation-sym xs ys moved) has)),
       (λ has. Contains-permutation xs ys miss moved (subst (λ (l : List RangeMiss). Contains l miss) (sym (is_all c)) has)),
     )
-
-pub at-misses-requires : goal.at-misses-requires
-at-misses-requires c = let e = c.args.evidence.now in missed_inside e.index.now e.accesses.now c.requires.evidence.accesses c.args.txn c.requires.txn.0 c.requires.txn.1
 
 sorted : (c : After-sort_unstable_by_key) → IsNonDecreasingBy (λ (miss : RangeMiss). miss.from) c.sort_unstable_by_key.new.self.items
 sorted c =
@@ -53,13 +50,6 @@ none = record { from = 0; to = 0 }
 pub loop-miss-init : goal.loop-miss-init
 loop-miss-init c = (refl, refl, joined_none c.put_firsts.new.firsts.items c.sort_unstable_by_key.new.self.items c.clear.new.self.items c.clear-2.new.self.items)
 
-pub loop-from-init : goal.loop-from-init
-loop-from-init c = (
-  refl,
-  refl,
-  cut_none c.loop-miss.self.1.1.1.1.0.items c.max-from.result (get_or c.deref-miss-items.result.now c.loop-miss.miss-index none).to c.loop-miss.self.1.0.items c.loop-miss.self.1.1.0.items,
-)
-
 next_own : (c : After-min-next) → IsNextKey c.loop-miss.self.1.1.1.1.0.items c.loop-from.from (get_or c.deref-miss-items.result.now c.loop-miss.miss-index none).to c.min-next.result
 next_own c =
     let keys = c.loop-miss.self.1.1.1.1.0.items in
@@ -78,12 +68,7 @@ pub loop-from-smaller : goal.loop-from-smaller
 loop-from-smaller c = let up = (next_own (goal.at.loop-from-smaller c).After-min-next).0 in let more = c.loop-from-test.true in omega arith
 
 pub overflow_add-from : goal.overflow_add-from
-overflow_add-from c =
-    let n = c.loop-miss.miss-index in
-    let inside = c.loop-miss-test.true in
-    let a = subst (λ (l : List RangeMiss). n < length l → (get_or l n none).to ≤ 1073741824) (sym c.deref-miss-items.ensures.value) (few (goal.at.overflow_add-from c).After-sort_unstable_by_key n none) inside in
-    let b = (next_own (goal.at.overflow_add-from c).After-min-next).1 in
-    omega arith
+overflow_add-from c = grind (arith, few, next_own)
 
 pub loop-from-preserved : goal.loop-from-preserved
 loop-from-preserved c =

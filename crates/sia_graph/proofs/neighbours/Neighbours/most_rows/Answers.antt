@@ -4,9 +4,6 @@ use Rattle.sia_parts.specs.declared.edges.Reading.{Reading}
 use Rattle.sia_parts.proofs.EdgeRows.Room.{one_count}
 use Rattle.sia_graph.proofs.neighbours.Neighbours.most_rows.Goals as goal
 
-pub overflow_add-result-2 : goal.overflow_add-result-2
-overflow_add-result-2 c = let small = c.args.self.now.passings.small in let ok = c.args.self.now.passings.ok in let l = c.len.ensures in omega arith
-
 pub returns : goal.returns
 returns c =
     let same = one_count c.args.self.now.evidence.index.now _ _ c.position_count-positions.ensures c.requires.looks.long in

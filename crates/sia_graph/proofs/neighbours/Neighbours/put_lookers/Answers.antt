@@ -1,5 +1,5 @@
 -- The row of the next one who saw the version.
-use Rattle.std.proofs.Common.{◌≡◌, ◌+◌, [], length, get_or, refl, ap, subst, ◌∙◌, arith}
+use Rattle.std.proofs.Common.{◌≡◌, ◌+◌, [], length, get_or, ap, subst, ◌∙◌, arith}
 use Rattle.std.specs.Prelude.{Contains, slice_index_or}
 use Rattle.std.proofs.lemmas.List.{take_all}
 use Rattle.std.proofs.lemmas.List.Elements.{Contains-get_or}
@@ -8,23 +8,17 @@ use Rattle.sia_parts.specs.EdgeRows.{noted_between}
 use Rattle.sia_parts.specs.Sights.{FromSome}
 use Rattle.sia_parts.proofs.EdgeRows.PositionOrder.{position_below}
 use Rattle.sia_parts.proofs.EdgeRows.Room.{noted_more, noted_rises}
-use Rattle.sia_parts.proofs.Shared.Adding.{FromFirst, adds_nothing, first_more, from_none}
+use Rattle.sia_parts.proofs.Shared.Adding.{FromFirst, first_more}
 use Rattle.sia_graph.specs.Found.{IsLookerRow, PutsMore}
-use Rattle.sia_graph.proofs.OfNeighbours.Lookers.{IsLookRow, looker_at, lookers_more, lookers_none}
+use Rattle.sia_graph.proofs.OfNeighbours.Lookers.{IsLookRow, looker_at, lookers_more}
 use Rattle.sia_graph.proofs.OfPivots.Outs.{puts_then}
 use Rattle.sia_graph.proofs.neighbours.Neighbours.put_lookers.Goals as goal
 
 abbrev none : Reading
 none = record { position = 0; reader = 0 }
 
-pub loop-position-init : goal.loop-position-init
-loop-position-init c = record { adds = adds_nothing (IsLookerRow c.args.self.now c.args.number c.args.from c.args.from) _ (lookers_none c.args.self.now c.args.number c.args.from); few = omega arith; room = refl }
-
 pub at-look-items-requires : goal.at-look-items-requires
 at-look-items-requires c = (let to = position_below c.args.self.now.evidence.index.now _ c.args.to c.requires.to.0 c.requires.can.looks.long c.requires.to.1 in let less = c.loop-position-test.true in omega arith)
-
-pub loop-look-init : goal.loop-look-init
-loop-look-init c = record { adds = from_none (IsLookRow c.args.self.now c.args.number) c.at-look-items.result.now _; few = omega arith; room = refl }
 
 pub put_if_overlaps-requires-clause-other : goal.put_if_overlaps-requires-clause-other
 put_if_overlaps-requires-clause-other c =

@@ -34,20 +34,6 @@ put_if_overlaps-requires-clause-other c =
     let high = c.in-Some.ensures.1 in
     subst (λ (p : Passing). (u : ℕ) × IsCommittedAt c.args.self.now.evidence.index.now p.reader u) (sym c.index.ensures) (passer_at c.args.self.now c.requires.can c.in-Some.next c.index.result.now (omega arith))
 
-pub put_if_overlaps-requires-clause-room : goal.put_if_overlaps-requires-clause-room
-put_if_overlaps-requires-clause-room c =
-    let most = bound (goal.at.put_if_overlaps-requires-clause-room c).After-from-limit in
-    let next = c.in-Some.ensures.0 in
-    let high = c.in-Some.ensures.1 in
-    let low = c.loop-next.invariant.0 in
-    let few = c.loop-next.invariant.2.few in
-    let same = c.loop-next.invariant.2.room in
-    let room = c.requires.room in
-    omega arith
-
-pub loop-next-smaller : goal.loop-next-smaller
-loop-next-smaller c = (let next = c.in-Some.ensures.0 in let high = c.in-Some.ensures.1 in omega arith)
-
 pub loop-next-preserved : goal.loop-next-preserved
 loop-next-preserved c =
     let self = c.args.self.now in
@@ -68,9 +54,6 @@ loop-next-preserved c =
       puts_then (IsPasserRow self i j c.args.from c.loop-next.at) (IsInRow self.evidence.index.now i (slice_index_or self.passings.items next p).reader) (IsPasserRow self i j c.args.from (next + 1)) (c.loop-next.at - c.args.from) 1 (next + 1 - c.args.from) _ _ _ (omega arith)
           (passers_more self c.requires.can i j c.args.from c.loop-next.at next p low le (omega arith) begins (reaches p) passed) c.loop-next.invariant.2 more,
     )
-
-pub returns-clause-behind : goal.returns-clause-behind
-returns-clause-behind c = begins_before c.args.self.now c.requires.can c.args.number c.args.key c.args.from _ c.requires.from (point (goal.at.returns-clause-behind c).After-from-limit)
 
 pub returns-clause-puts : goal.returns-clause-puts
 returns-clause-puts c =

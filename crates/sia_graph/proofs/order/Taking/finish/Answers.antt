@@ -28,9 +28,7 @@ first_is : (c : After-index-in-waiting) → c.index-in-waiting.result.now ≡ ge
 first_is c = at_zero c.waiting.self c.args.node c.index-in-waiting.result.now (let l = c.waiting.invariant.0.under_way.first_long in let b = below c in omega arith) c.index-in-waiting.ensures
 
 some_waits : (c : After-index-in-waiting) → c.index-in-waiting.result.now ≢ 4294967295
-some_waits c none =
-    let tested = at_zero c.waiting.self c.args.node c.index.result.now (let l = c.waiting.invariant.0.under_way.first_long in let b = below c in omega arith) c.index.ensures in
-    c.waiting-test.true (tested ∙ sym (first_is c) ∙ none)
+some_waits c none = grind (arith, at_zero, below, first_is)
 
 waits : (c : After-index-in-waiting) → WaitsAt c.args.graph.now.sources c.waiting.self.counts.items c.waiting.self.passed.items c.index-in-waiting.result.now c.args.node
 waits c = node_waits c.args.graph.now c.args.done.now c.waiting.self (to_take c) c.args.node (below c) c.waiting.invariant.0 c.index-in-waiting.result.now (first_is c) (some_waits c)

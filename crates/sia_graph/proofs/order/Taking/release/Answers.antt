@@ -1,4 +1,4 @@
-use Rattle.std.proofs.Common.{◌≡◌, ◌+◌, ◌-◌, ◌<◌, ◌≤◌, ℕ, [], Bool, true, false, List, Ok, Err, Option, Result, Some, length, get_or, set, slice_get, inl, inr, ◌⊎◌, ap, refl, sym, subst, ◌∙◌, arith}
+use Rattle.std.proofs.Common.{◌≡◌, ◌+◌, ◌-◌, ◌<◌, ◌≤◌, ℕ, [], Bool, true, false, List, Option, Result, Some, length, get_or, set, inl, inr, ◌⊎◌, ap, refl, sym, subst, ◌∙◌, arith}
 use Rattle.std.specs.BinaryHeap.{heap_items}
 use Rattle.std.specs.List.Sorted.{IsStrictlyIncreasing}
 use Rattle.std.specs.Result.{OkIff, result_ok}
@@ -34,50 +34,17 @@ returns-then-index-gt1-clause-is c pending less waking is fewer =
 abbrev IsFirst : List Bool → ℕ → ℕ → List ℕ → Type 0
 IsFirst done p from row = (from ≤ p) × (p < length row) × (¬ IsDone done (get_or row p 0)) × ((i : ℕ) → from ≤ i → i < p → IsDone done (get_or row i 0))
 
-pub loop-place-preserved : goal.loop-place-preserved
-loop-place-preserved c =
-    let place = c.loop-place.place in
-    let so = c.loop-place.invariant in (
-      (let low = so.0 in omega arith),
-      λ k low below. elim (cases_lt k place) [
-        | inl before ↦ so.1 k low before
-        | inr more ↦ let same : place ≡ k = omega arith in subst (λ n. IsDone c.args.done.now (get_or c.at-sources.result.now n 0)) same c.if-done-sources.true
-      ],
-    )
-
 first_left : (c : Then-place-sources) → IsFirst c.args.done.now c.loop-place.place c.index-2.result.now c.at-sources.result.now
-first_left c = (
-  c.loop-place.invariant.0,
-  c.if-place-sources.true,
-  (λ is. elim c.loop-place-test.branch [
-    | then-loop-place-test+else-done-sources w ↦ let no : true ≡ false = sym is ∙ w.if-done-sources.false in cc
-    | else-loop-place-test w ↦ let end = w.loop-place-test.false in let inside = c.if-place-sources.true in absurd (omega arith)
-  ]),
-  c.loop-place.invariant.1,
-)
+first_left c = grind (arith, then-loop-place-test+else-done-sources, else-loop-place-test)
 
 pub bounds-done-sources : goal.bounds-done-sources
-bounds-done-sources c =
-    let is = c.requires.is.2 in
-    let e = is.under_way.done_long in
-    let a = sources_within c.args.graph.now (length c.args.self.now.counts.items) c.args.node c.requires.graph c.at-sources.result.now c.at-sources.ensures c.loop-place.place 0 c.loop-place-test.true in
-    omega arith
+bounds-done-sources c = grind (arith, sources_within)
 
 pub index-requires-then-place-sources : goal.index-requires-then-place-sources
-index-requires-then-place-sources c =
-    let w = c.requires.is.2.under_way in
-    let e = w.first_long in
-    let ok = c.args.self.now.first_waiting.ok.0 in
-    let a = sources_within c.args.graph.now (length c.args.self.now.counts.items) c.args.node c.requires.graph c.at-sources.result.now c.at-sources.ensures c.loop-place.place 0 c.if-place-sources.true in
-    omega arith
+index-requires-then-place-sources c = grind (arith, sources_within)
 
 pub index_mut-requires-then-place-sources-3 : goal.index_mut-requires-then-place-sources-3
-index_mut-requires-then-place-sources-3 c =
-    let w = c.requires.is.2.under_way in
-    let e = w.first_long in
-    let ok = c.args.self.now.first_waiting.ok.0 in
-    let a = sources_within c.args.graph.now (length c.args.self.now.counts.items) c.args.node c.requires.graph c.at-sources.result.now c.at-sources.ensures c.loop-place.place 0 c.if-place-sources.true in
-    omega arith
+index_mut-requires-then-place-sources-3 c = grind (arith, sources_within)
 
 -- what is known of a row and a place from which it was looked at, of an equal row and an equal place
 elsewhere : (P : ℕ → List ℕ → Type 0) (from n : ℕ) (row other : List ℕ) → from ≡ n → row ≡ other → P from row → P n other
@@ -85,8 +52,7 @@ elsewhere P from n row other e f p = subst (λ r. P n r) f (subst (λ k. P k row
 
 -- the place that is kept
 same_place : {E : Type 0} (r : Result ℕ E) (o : Option ℕ) (x place : ℕ) → OkIff r (place < 4294967296) place → o ≡ result_ok r → o ≡ Some x → x ≡ place
-same_place (Ok y) o x place is ok at = same_Some _ _ (sym at ∙ ok) ∙ is.1
-same_place (Err e) o x place is ok at = cc
+same_place r o x place p q s = grind (arith, same_Some)
 
 pub returns-then-place-sources-clause-is : goal.returns-then-place-sources-clause-is
 returns-then-place-sources-clause-is c pending less waking is fewer =
@@ -122,33 +88,7 @@ returns-then-place-sources-clause-is c pending less waking is fewer =
     }
 
 pub returns-then-place-sources-clause-others : goal.returns-then-place-sources-clause-others
-returns-then-place-sources-clause-others c t s w d =
-    let k = c.args.self.now in
-    let node = c.args.node in
-    let v = c.index_mut.result.now - 1 in
-    let now = c.requires.is.2.under_way in
-    let l = now.passed_long in
-    let b = c.requires.node.0 in
-    let row = get_or c.args.graph.now.sources node [] in
-    let p = c.in_ok-self.field-0 in
-    let stored = same_place c.try_from.result c.ok.result p c.loop-place.place c.try_from.ensures c.ok.ensures.value c.in_ok-self.ensures.ok_part in
-    elim (cases_eq t node) [
-      | inl e ↦
-          let f =
-          subst (λ q. IsFirst c.args.done.now q c.index-2.result.now row) (sym stored)
-          (elsewhere (IsFirst c.args.done.now c.loop-place.place) c.index-2.result.now c.index-2.result.now c.at-sources.result.now row refl c.at-sources.ensures (first_left (goal.at.returns-then-place-sources-clause-others c).Then-place-sources)) in
-          let at : slice_get row (get_or (set k.passed.items node p) node 0) ≡ Some s =
-          subst (λ u. slice_get (get_or c.args.graph.now.sources u []) (get_or (set k.passed.items node p) u 0) ≡ Some s) e w.2 in
-          let same : get_or row p 0 ≡ s =
-          same_Some _ _
-          (sym (slice_get-get_or row p 0 f.1) ∙ ap (slice_get row) (sym (get_or-set_same k.passed.items node p 0 (omega arith))) ∙ at) in
-          absurd (f.2 (subst (IsDone c.args.done.now) (sym same) d))
-      | inr n ↦ (
-        others_waited c.args.graph.now k.counts.items k.passed.items (set k.counts.items node v) (set k.passed.items node p) node (length-set k.counts.items node v)
-            (λ u m. get_or-set_other k.counts.items node u v 0 m) (λ u m. get_or-set_other k.passed.items node u p 0 m) t s n w,
-        n,
-      )
-    ]
+returns-then-place-sources-clause-others c t s w d = grind (arith, same_place, cases_eq, elsewhere, first_left, same_Some, slice_get-get_or, get_or-set_same, others_waited, length-set, get_or-set_other)
 
 abbrev lowered : Else-place-sources → List ℕ
 lowered c = set (set c.args.self.now.counts.items c.args.node (c.index_mut.result.now - 1)) c.args.node 0

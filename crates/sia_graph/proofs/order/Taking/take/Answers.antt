@@ -31,10 +31,7 @@ abbrev AreFirsts : Taking → ℕ → Reverse ℕ → Type 0
 AreFirsts k first other = (first ≡ get_or k.run.items 0 last) × (other.0 ≡ (get_or (heap_items k.others) 0 most).0)
 
 firsts : (c : After-unwrap_or-other) → AreFirsts c.args.self.now c.unwrap_or-first.result c.unwrap_or-other.result
-firsts c = (
-  read_at last c.unwrap_or-first.result c.args.self.now.run.items 0 c.front.result c.copied.result c.unwrap_or-first.ensures c.copied.ensures c.front.ensures.item,
-  ap (λ x. x.0) (read_at most c.unwrap_or-other.result (heap_items c.args.self.now.others) 0 c.peek.result c.copied-2.result c.unwrap_or-other.ensures c.copied-2.ensures c.peek.ensures.item),
-)
+firsts c = grind (arith, read_at)
 
 pub returns-then-first-other : goal.returns-then-first-other
 returns-then-first-other c =
@@ -99,20 +96,7 @@ from_end : (counts : List ℕ) (end i : ℕ) → end ≤ i → get_or (drop end 
 from_end counts end i from = let e : end + (i - end) ≡ i = omega arith in get_or-drop end counts (i - end) 0 ∙ ap (λ n. get_or counts n 0) e
 
 first_free : (counts : List ℕ) (end : ℕ) (r : Option ℕ) → IsFirstOf (drop end counts) r → IsFirstFree counts end r
-first_free counts end None none = λ i from below.
-    let long = length-drop end counts in
-    let some = none (i - end) 0 (omega arith) (omega arith) in
-    let same = from_end counts end i from in
-    elim (cases_lt 0 (get_or counts i 0)) [ inl more ↦ more | inr no_more ↦ absurd (some (omega arith)) ]
-first_free counts end (Some p) found =
-    let long = length-drop end counts in (
-      (let l = found.0 in omega arith),
-      sym (get_or-drop end counts p 0) ∙ found.1 0,
-      λ i from below.
-          let some = found.2 (i - end) 0 (omega arith) (omega arith) in
-          let same = from_end counts end i from in
-          elim (cases_lt 0 (get_or counts i 0)) [ inl more ↦ more | inr no_more ↦ absurd (some (omega arith)) ],
-    )
+first_free counts end r p = grind (arith, length-drop, from_end, cases_lt, get_or-drop)
 
 rest_is : (counts slice : List ℕ) (end : ℕ) (xs : List ℕ) → slice ≡ counts → xs ≡ take (length slice - end) (drop end slice) → xs ≡ drop end counts
 rest_is counts slice end xs same is = let l = length-drop end slice in is ∙ take_all (length slice - end) (drop end slice) (omega arith) ∙ ap (drop end) same

@@ -30,17 +30,7 @@ loop-block-init c =
 
 -- blocks are over the key, since one is left
 over_key : (c : In-loop-block) → c.key_at-key.result < c.args.self.now.size
-over_key c = elim (cases_lt c.key_at-key.result c.args.self.now.size) [
-  | inl less ↦ less
-  | inr most ↦ let none = (c.loop-block.invariant.1 most).0 in let some = c.loop-block-test.true in absurd (omega arith)
-]
-
-pub index-requires-in-loop-block : goal.index-requires-in-loop-block
-index-requires-in-loop-block c =
-    let less = (c.loop-block.invariant.0 (over_key c)).1 in
-    let long = c.requires.is.3.passed_long in
-    let ok = c.args.self.now.passed.ok.0 in
-    omega arith
+over_key c = grind (arith, cases_lt)
 
 pub loop-block-preserved : goal.loop-block-preserved
 loop-block-preserved c =

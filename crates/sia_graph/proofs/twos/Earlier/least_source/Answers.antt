@@ -5,14 +5,11 @@ use Rattle.std.proofs.lemmas.List.Elements.{Contains-get_or}
 use Rattle.sia_parts.specs.Accesses.{SawPosition}
 use Rattle.sia_parts.specs.Sights.{FromSome}
 use Rattle.sia_graph.specs.Twos.{IsLeastNumber, IsLeftMaker, IsLeftSource, IsTwo, IsUpTo}
-use Rattle.sia_graph.proofs.Shared.AccessLists.{saw_inside, saw_is, saw_position}
+use Rattle.sia_graph.proofs.Shared.AccessLists.{saw_is, saw_position}
 use Rattle.sia_graph.proofs.Shared.EarlierSources.{OfEither, OfMade, OfSeen, sources_are}
 use Rattle.sia_graph.proofs.Shared.LeastNumbers.{first_least, least_join, least_none, other_of}
 use Rattle.sia_graph.proofs.Shared.PositionTwos.{positions_below}
 use Rattle.sia_graph.proofs.twos.Earlier.least_source.Goals as goal
-
-pub loop-position-init : goal.loop-position-init
-loop-position-init c = (omega arith, λ left are. least_none _ (λ q f. (let n = f.1.1 in omega arith)))
 
 pub least_before-requires-clause-position : goal.least_before-requires-clause-position
 least_before-requires-clause-position c =
@@ -20,9 +17,6 @@ least_before-requires-clause-position c =
     let made = c.made_by-position-items.result.now in
     let v = ((c.made_by-position-items.ensures u.0 u.1).each (get_or made c.loop-position.position-index 0)).0 (Contains-get_or made c.loop-position.position-index 0 c.loop-position-test.true) in
     (v.0, v.1)
-
-pub least_before-requires-clause-is : goal.least_before-requires-clause-is
-least_before-requires-clause-is c = let e = c.requires.earlier in (c.args.evidence.now.accesses.now, e.0, c.requires.is.well_formed, e.1)
 
 pub loop-position-preserved : goal.loop-position-preserved
 loop-position-preserved c =
@@ -36,9 +30,6 @@ loop-position-preserved c =
           (first_least (OfMade e.index.now e.accesses.now left c.args.me) made i 0 c.loop-position.least c.least_before.result c.loop-position-test.true c.loop-position.invariant.0 (omega arith)
           (c.loop-position.invariant.1 left are) (c.least_before.ensures e.accesses.now left are)),
     )
-
-pub at-position-items-requires : goal.at-position-items-requires
-at-position-items-requires c = let e = c.args.evidence.now in let u = c.requires.me in saw_inside e.index.now e.accesses.now c.requires.is.accesses c.args.me u.0 u.1
 
 pub loop-position-2-init : goal.loop-position-2-init
 loop-position-2-init c left are = (4294967295, omega arith, least_none _ (λ q f. (let n = f.1.1 in omega arith)), (let l = c.loop-position.invariant.0 in omega arith))
