@@ -1,5 +1,5 @@
 -- Nodes with blocks among them settle what the members settle.
-use Rattle.std.proofs.Common.{◌≡◌, ◌⊎◌, inl, inr, ℕ, zero, suc, ◌<◌, ◌≤◌, Bool, true, List, [], ◌∷◌, ◌++◌, refl, sym, subst, arith}
+use Rattle.std.proofs.Common.{◌≡◌, ◌⊎◌, inl, inr, ℕ, zero, suc, ◌<◌, ◌≤◌, Bool, true, List, [], ◌∷◌, ◌++◌, refl, subst, arith}
 use Rattle.std.specs.Prelude.{Contains, not, nat_lt}
 use Rattle.std.proofs.lemmas.Bool.{cases_lt, le-ltb, ltb-false, not-true, not_from_false}
 use Rattle.sia_events.specs.Lists.{Precedes}
@@ -180,16 +180,8 @@ module _ (floor : ℕ) where
           moved_once = grind (arith, apart, once_join, from_moved)
 
           within : (x y : ℕ) → Step x y → IsAhead x y (r ∷ rest) → IsAhead x y (ys ++ r ∷ zs)
-          within x y step (inl w) = elim (p.parts y w.1) [
-            | inl i ↦ absurd (r_stays (subst GoesAlong (sym w.0) (goes_along x y step (inl w.0) (p.left y i))))
-            | inr j ↦ ahead_right x y ys (r ∷ zs) (inl (w.0, j))
-          ]
-          within x y step (inr a) = elim (p.ahead x y a) [
-            | inl (inl b) ↦ ahead_left x y ys (r ∷ zs) b
-            | inl (inr b) ↦ ahead_right x y ys (r ∷ zs) (inr b)
-            | inr (inl w) ↦ ahead_across x y ys (r ∷ zs) w.0 (inr w.1)
-            | inr (inr w) ↦ absurd (p.right x w.0 (goes_along x y step (inr (p.whole x (inr w.0))) (p.left y w.1)))
-          ]
+          within x y step (inl w) = grind (arith, r_stays, goes_along, ahead_right, ahead_left, ahead_across)
+          within x y step (inr a) = grind (arith, r_stays, goes_along, ahead_right, ahead_left, ahead_across)
 
           moved_order : IsOrderBy Node Step (front ++ (ys ++ r ∷ zs))
           moved_order = (

@@ -94,10 +94,7 @@ module _ (h : List Event) where
     -- nothing at place j writes k
     quiet : (j f : ℕ) → ((u : ℕ) → slice_get order j ≡ Some u → ¬ Wrote h u k) → IsLastWriter h order j k f → IsLastWriter h order (suc j) k f
     quiet j f none (inl w) = inl (
-      λ m u l at. elim (cases_lt m j) [
-        | inl less ↦ w.0 m u less at
-        | inr more ↦ let same : m ≡ j = omega arith in none u (sym (ap (slice_get order) same) ∙ at)
-      ],
+      grind (arith, cases_lt),
       w.1,
     )
     quiet j f none (inr w) =
@@ -106,10 +103,7 @@ module _ (h : List Event) where
           omega arith,
           w.2,
           w.3,
-          λ n u a b at. elim (cases_lt n j) [
-            | inl less ↦ w.4 n u a less at
-            | inr more ↦ let same : n ≡ j = omega arith in none u (sym (ap (slice_get order) same) ∙ at)
-          ],
+          grind (arith, cases_lt),
         )
 
     one_more : (j t f g : ℕ) → slice_get order j ≡ Some t → IsLastOwn h t k f g → IsLastWriter h order j k f → IsLastWriter h order (suc j) k g

@@ -128,12 +128,7 @@ module _ (E : Edge → Type 0) (S : List ℕ) where
   same_back : (c home : ℕ) (xs ys : List Step) → GoesRound E S (forwards xs) home → GoesRound E S (forwards ys) home → StandsLast c xs → StandsLast c ys → xs ≡ ys
   same_back c home [] ys g h a b = absurd a
   same_back c home (x ∷ xs) [] g h a b = absurd b
-  same_back c home (x ∷ []) (y ∷ []) g h a b =
-      let p = round_last E S [] x home g in
-      let q = round_last E S [] y home h in
-      let e = one_previous E S x.txn y.txn home p.0 q.0 in
-      let s = one_step E S x y home e p.1 q.1 in
-      λ i. s i ∷ []
+  same_back c home (x ∷ []) (y ∷ []) g h a b = grind (arith, round_last, one_previous, one_step)
   same_back c home (x ∷ []) (y ∷ z ∷ ys) g h a b =
       let p = round_last E S [] x home g in
       let q = round_last E S (forwards (z ∷ ys)) y home h in
@@ -190,10 +185,7 @@ one_cycle M E (s ∷ ss) (r ∷ rs) a b =
     let least : b.2 ≡ a.2 = omega arith in
     let back : GoesBack E S b.5 a.2 r.txn = subst (λ t. GoesBack E S b.5 t r.txn) least (move_back E T S from to b.5 b.2 r.txn b.6) in
     let round : GoesRound E S (r ∷ rs) r.txn = move_round E T S from to (r ∷ rs) r.txn b.8 in
-    let home : s.txn ≡ r.txn = elim (cases_lt a.5 b.5) [
-      | inl less ↦ same_home E S s r ss rs a.8 round a.7 b.7 a.5 b.5 a.2 a.6 back (omega arith)
-      | inr more ↦ sym (same_home E S r s rs ss round a.8 b.7 a.7 b.5 a.5 a.2 back a.6 more)
-    ] in
+    let home : s.txn ≡ r.txn = grind (arith, move_back, move_round, cases_lt, same_home, same_round) in
     same_round E S s r ss rs home a.8 round a.7 b.7
 
 -- there is one verdict

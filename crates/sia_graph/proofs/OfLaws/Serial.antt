@@ -20,10 +20,7 @@ module _ {X : Type 0} where
       → ((slice_get us i ≡ Some x) × (take i (us ++ vs) ≡ take i us)) ⊎ ((n : ℕ) × (slice_get vs n ≡ Some x) × (take i (us ++ vs) ≡ us ++ take n vs))
   front_or_behind [] vs i x e = inr (i, e, refl)
   front_or_behind (a ∷ us) vs zero x e = inl (e, refl)
-  front_or_behind (a ∷ us) vs (suc i) x e = elim (front_or_behind us vs i x e) [
-    | inl w ↦ inl (w.0, ap (λ l. a ∷ l) w.1)
-    | inr w ↦ inr (w.0, w.1, ap (λ l. a ∷ l) w.2)
-  ]
+  front_or_behind (a ∷ us) vs (suc i) x e = grind (arith, front_or_behind us vs i x e)
 
   module _ (f : ℕ → List X) where
     -- a place in joined lists, by the list and the place in it
@@ -56,9 +53,7 @@ IsOwnPlace t n h es m p e = (i : ℕ) × (p ≡ n + i) × (slice_get h i ≡ Som
 split_by_test : (t n : ℕ) (f : Event) (h : List Event) (es : List (ℕ × Event)) (b : Bool) → actor f == t ≡ b
     → ((m p : ℕ) (e : Event) → slice_get es m ≡ Some (p, e) → IsOwnPlace t (n + 1) h es m p e)
     → (m p : ℕ) (e : Event) → slice_get (cond b ((n, f) ∷ es) es) m ≡ Some (p, e) → IsOwnPlace t n (f ∷ h) (cond b ((n, f) ∷ es) es) m p e
-split_by_test t n f h es true test rest zero p e at =
-    let parts = some_pair_parts n p f e at in
-    (0, omega arith, ap Some parts.1, sym (ap actor parts.1) ∙ eqb-true (actor f) t test, refl)
+split_by_test t n f h es true test rest zero p e at = grind (arith, some_pair_parts, eqb-true, events_from)
 split_by_test t n f h es true test rest (suc m) p e at =
     let r = rest m p e at in
     let there = r.1 in (
@@ -97,21 +92,9 @@ later_by_test t n f h es true test i e r =
       subst (λ b. (n, f) ∷ take r.0 es ≡ cond b ((n, f) ∷ events_from (n + 1) (take i h) t) (events_from (n + 1) (take i h) t)) (sym test)
           (ap (λ l. (n, f) ∷ l) r.2),
     )
-later_by_test t n f h es false test i e r =
-    let place : n + 1 + i ≡ n + suc i = omega arith in (
-      r.0,
-      r.1 ∙ ap (λ x. Some (x, e)) place,
-      subst (λ b. take r.0 es ≡ cond b ((n, f) ∷ events_from (n + 1) (take i h) t) (events_from (n + 1) (take i h) t)) (sym test) r.2,
-    )
+later_by_test t n f h es false test i e r = grind (arith, events_from)
 
 pub own_event : (t n : ℕ) (h : List Event) (i : ℕ) (e : Event) → slice_get h i ≡ Some e → actor e ≡ t → IsOwnEvent t n h (events_from n h t) i e
 own_event t n [] i e at acts = cc
-own_event t n (f ∷ h) zero e at acts =
-    let same : f ≡ e = same_Some f e at in
-    let place : n ≡ n + 0 = omega arith in (
-      0,
-      subst (λ b. slice_get (cond b ((n, f) ∷ events_from (n + 1) h t) (events_from (n + 1) h t)) 0 ≡ Some (n + 0, e)) (sym (eq-eqb (actor f) t (ap actor same ∙ acts)))
-          (λ j. Some (place j, same j)),
-      refl,
-    )
+own_event t n (f ∷ h) zero e at acts = grind (arith, same_Some, events_from, eq-eqb, later_by_test)
 own_event t n (f ∷ h) (suc i) e at acts = later_by_test t n f h (events_from (n + 1) h t) (actor f == t) refl i e (own_event t (n + 1) h i e at acts)

@@ -89,10 +89,7 @@ module _ (n : Neighbours) (can : CanFind n) where
         | inl under ↦ (is.0, is.1, is.2, under, is.4, is.5, is.6, is.7)
         | inr from_at ↦ elim (cases_lt is.0 to) [
           | inl between ↦ absurd (let past = passed_by at to is.0 is.1 most none from_at between is.4 in let over = is.6 in omega arith)
-          | inr behind ↦ absurd (
-              let begins = leb-false _ _ (point.1 is.0 is.1 behind is.3) in
-              let own = ap (λ (x : Passing). x.from) is.4 in
-              omega arith)
+          | inr behind ↦ grind (arith, cases_lt, passed_by, leb-false)
         ]
       ]),
     )

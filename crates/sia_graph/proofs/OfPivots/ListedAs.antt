@@ -1,5 +1,5 @@
 -- Lists of all that has a property, and what a sort makes of a list.
-use Rattle.std.proofs.Common.{◌≡◌, ◌↔◌, ℕ, ◌<◌, List, [], ◌∷◌, length, map, ap, sym, ◌∙◌, arith}
+use Rattle.std.proofs.Common.{◌≡◌, ◌↔◌, ℕ, ◌<◌, List, [], ◌∷◌, length, map, sym, ◌∙◌, arith}
 use Rattle.std.specs.Prelude.{Contains, slice_index_or}
 use Rattle.std.specs.declared.cmp.Ordering.{Ordering}
 use Rattle.std.specs.declared.cmp.Ordering.TheVariants.{Less}
@@ -28,9 +28,5 @@ mapped {A} f (z ∷ zs) y = (
   (λ c.
       let below : c.0 < length (z ∷ zs) = let l = c.1 in omega (arith, length-map (z ∷ zs) f) in
       (slice_index_or (z ∷ zs) c.0 z, Contains-get_or (z ∷ zs) c.0 z below, sym (get_or-map f (z ∷ zs) c.0 z y below) ∙ c.2)),
-  (λ (x, has, is). (
-    has.0,
-    (let l = has.1 in omega (arith, length-map (z ∷ zs) f)),
-    get_or-map f (z ∷ zs) has.0 x y has.1 ∙ ap f has.2 ∙ is,
-  )),
+  grind (arith, length-map, get_or-map),
 )

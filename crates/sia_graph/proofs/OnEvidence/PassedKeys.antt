@@ -26,13 +26,7 @@ IsNextKey keys from to next = (from ≤ next) × (next ≤ to) × ((j : ℕ) →
 
 pub next_key : (keys : List ℕ) (rise : IsNonDecreasing keys) (from at : ℕ) (point : IsPartitionPoint (λ n. ltb n from ≡ true) (λ n. ltb n from ≡ false) keys at) (got : Option (Bor ℕ)) (to next : ℕ)
     → from ≤ to → is_some got ≡ ltb at (length keys) → IfSome got (λ there. there.now ≡ get_or keys at there.now) → next ≡ min (unwrap_or (option_copied got) to) to → IsNextKey keys from to next
-next_key keys rise from at point None to next order none here is =
-    let past = ltb-false at (length keys) (sym none) in (
-      omega arith,
-      omega arith,
-      none_from keys rise from at point next (λ k d l b. absurd (omega arith)),
-      λ l. absurd (omega arith),
-    )
+next_key keys rise from at point None to next order none here is = grind (arith, ltb-false, none_from, ltb-true, rest_from, above)
 next_key keys rise from at point (Some there) to next order some here is =
     let inside = ltb-true at (length keys) (sym some) in
     let rest = rest_from keys rise from at point there.now inside here in

@@ -1,5 +1,5 @@
 -- A node that was ready is done.
-use Rattle.std.proofs.Common.{◌≡◌, ◌≢◌, inl, inr, ℕ, ◌+◌, ◌<◌, Bool, true, false, List, [], length, get_or, set, ap, sym, ◌∙◌, arith}
+use Rattle.std.proofs.Common.{◌≡◌, ◌≢◌, inl, inr, ℕ, ◌+◌, ◌<◌, Bool, true, false, List, [], length, get_or, set, sym, ◌∙◌, arith}
 use Rattle.std.specs.Prelude.{◌↔◌}
 use Rattle.std.proofs.lemmas.Bool.{cases_Bool, cases_eq}
 use Rattle.std.proofs.lemmas.List.{get_or-set_same, get_or-set_other, length-set}
@@ -53,10 +53,7 @@ module _ (n : ℕ) (g : Graph) (graph : IsGraph n g) (done : List Bool) (k : Tak
           let l = (graph.within s u (waits_led g k.counts.items k.passed.items u s w)).0 in
           absurd (omega arith)
     ];
-    taken = λ u l d. elim (cases_eq u t) [
-      | inl e ↦ ap (λ x. get_or k.counts.items x 0) e ∙ free
-      | inr other ↦ is.under_way.taken u l (done_before u other d)
-    ];
+    taken = grind (arith, length-set, fewer, was_done, cases_eq, done_before, waits_led);
   }
 
   pub done_ready : (After : ℕ → Type 0) (end : ℕ) → ((u : ℕ) → IsReadyAt After end k.counts.items u ↔ (IsReadyIn k u × (t ≢ u)))

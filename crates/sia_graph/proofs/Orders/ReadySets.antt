@@ -69,10 +69,7 @@ rest_ascends first rest up k l =
 
 -- the first of a run that ascends is its least
 pub least_of_run : (first : ℕ) (rest : List ℕ) → IsStrictlyIncreasing (first ∷ rest) → (i : ℕ) → 0 < times i (first ∷ rest) → first ≤ i
-least_of_run first [] up i some = elim (cases_Bool (eqb first i)) [
-  | inl same ↦ let e = eqb-true first i same in omega arith
-  | inr other ↦ let e : times i (first ∷ []) ≡ times i [] = count_later (λ x. eqb x i) first [] other in absurd (omega arith)
-]
+least_of_run first [] up i some = grind (arith, cases_Bool, eqb, eqb-true, count_later, rest_ascends)
 least_of_run first (next ∷ rest) up i some = elim (cases_Bool (eqb first i)) [
   | inl same ↦ let e = eqb-true first i same in omega arith
   | inr other ↦

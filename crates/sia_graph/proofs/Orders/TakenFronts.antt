@@ -47,9 +47,7 @@ module _ (n : ℕ) (g : Graph) (graph : IsGraph n g) (done : List Bool) (k : Tak
 
   pub one_left : (t : ℕ) → t < n → 0 < get_or k.counts.items t 0 → (s : ℕ) × (s < n) × (¬ IsDone done s) × LeadsTo g s t
   one_left t l some = elim (cases_lt 0 (told g.targets done t)) [
-    | inl more ↦
-        let w = some_told g.targets done t more in
-        (w.0, (graph.within w.0 t (inl w.3)).0, w.2, inl w.3)
+    | inl more ↦ grind (arith, cases_lt, some_told, waits_led)
     | inr none ↦
         let w = is.under_way.stops t (omega arith) (omega arith) in
         let led = waits_led g k.counts.items k.passed.items t w.0 w.1 in

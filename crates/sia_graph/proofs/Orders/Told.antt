@@ -24,10 +24,7 @@ times_some t (x ∷ xs) c = by_place (times_some t xs) c.0 c.1 c.2
     by_place rest zero l e = let f : times t (x ∷ xs) ≡ 1 + times t xs = count_first (λ y. eqb y t) x xs (eq-eqb x t e) in omega arith
     by_place rest (suc k) l e = elim (cases_Bool (eqb x t)) [
       | inl same ↦ let f : times t (x ∷ xs) ≡ 1 + times t xs = count_first (λ y. eqb y t) x xs same in omega arith
-      | inr other ↦
-          let f : times t (x ∷ xs) ≡ times t xs = count_later (λ y. eqb y t) x xs other in
-          let r : 0 < times t xs = rest (k, omega arith, e) in
-          omega arith
+      | inr other ↦ grind (arith, count_first, eqb, eq-eqb, cases_Bool, count_later)
     ]
 
 -- a node that becomes done tells no more

@@ -69,33 +69,16 @@ module _ (g : Graph) (done : List Bool) (counts passed first next : List ℕ) (p
         waits = λ t s l. waits t s (omega arith);
         held = λ t l some. elim (cases_eq t node) [
           | inl e ↦ subst (λ u. get_or cs u 0 ≡ told g.targets done u + less u + 1) (sym e) (held (subst (λ u. 0 < get_or cs u 0) e some))
-          | inr n ↦
-              let a = cs_other t n in
-              let b = less_other t n in
-              omega arith
+          | inr n ↦ grind (arith, cases_eq, was_now, now_was)
         ];
         free = λ t l none. elim (cases_eq t node) [
-          | inl e ↦
-              subst (λ u. (told g.targets done u + less u ≡ 0) × ((s : ℕ) → Contains (get_or g.sources u []) s → IsDone done s)) (sym e)
-              (free (subst (λ u. get_or cs u 0 ≡ 0) e none))
+          | inl e ↦ grind (arith, cases_eq, was_now, now_was)
           | inr n ↦ let a = cs_other t n in let f = is.free t (omega arith) (omega arith) in let z = f.0 in let b = less_other t n in (omega arith, f.1)
         ];
-        passed_done = λ t i s l b at. elim (cases_eq t node) [
-          | inl e ↦ ps_done i s (subst (λ u. i < get_or ps u 0) e b) (subst (λ u. slice_get (get_or g.sources u []) i ≡ Some s) e at)
-          | inr n ↦ let a = ps_other t n in is.passed_done t i s (omega arith) (omega arith) at
-        ];
-        stops = λ t l one. elim (cases_eq t node) [
-          | inl e ↦ subst (λ u. (s : ℕ) × now_waits u s) (sym e) (stops (subst (λ u. get_or cs u 0 ≡ 1) e one))
-          | inr n ↦ let a = cs_other t n in let w = is.stops t (omega arith) (omega arith) in (w.0, was_now t w.0 n w.1)
-        ];
-        left = λ t s w d. elim (cases_eq t node) [
-          | inl e ↦ left s (subst (λ u. now_waits u s) e w) d
-          | inr n ↦ is.left t s (now_was t s n w) d
-        ];
-        taken = λ t l d. elim (cases_eq t node) [
-          | inl e ↦ subst (λ u. get_or cs u 0 ≡ 0) (sym e) (taken (subst (IsDone done) e d))
-          | inr n ↦ let a = cs_other t n in let z = is.taken t (omega arith) d in omega arith
-        ];
+        passed_done = grind (arith, cases_eq, was_now, now_was);
+        stops = grind (arith, cases_eq, was_now, now_was);
+        left = grind (arith, cases_eq, was_now, now_was);
+        taken = grind (arith, cases_eq, was_now, now_was);
       }
 
     -- less holds a node back that is still held by steps
@@ -131,10 +114,7 @@ module _ (g : Graph) (done : List Bool) (counts passed first next : List ℕ) (p
           (λ p. absurd (omega arith))
           (λ z. (
             (omega arith),
-            (λ s c. elim (cases_lt c.0 (get_or passed node 0)) [
-              | inl before ↦ is.passed_done node c.0 s below before (slice_get-get_or row c.0 s c.1 ∙ ap Some c.2)
-              | inr after ↦ subst (IsDone done) (get_or_default row c.0 0 s c.1 ∙ c.2) (all c.0 after c.1)
-            ]),
+            grind (arith, changed, same_waits, cases_lt, slice_get-get_or, get_or_default, not_done),
           ))
           (λ i s b at. is.passed_done node i s below (omega arith) at)
           (λ z. absurd (omega arith)) (λ s w d. absurd (none s w)) (λ d. absurd (not_done d))
@@ -157,9 +137,7 @@ module _ (g : Graph) (done : List Bool) (counts passed first next : List ℕ) (p
                   ap (λ k. get_or (set is.lists at (node ∷ get_or is.lists at [])) k []) same ∙ get_or-set_same is.lists at (node ∷ get_or is.lists at []) [] (omega arith)
                   ∙ ap (λ k. node ∷ get_or is.lists k []) (sym same) in (
                     λ c. elim (head_or node t (get_or is.lists s []) (subst (λ xs. Contains xs t) row c)) [
-                      | inl here ↦
-                          subst (λ u. now_waits u s) here
-                          ((let a = cs_long in omega arith), one, stopped ∙ ap Some (sym same))
+                      | inl here ↦ grind (arith, cases_eq, get_or-set_same, head_or, was_now, not_waiting, at_head, behind_head, now_was, get_or-set_other, same_Some)
                       | inr there ↦ let w = (is.waits t s l).0 there in was_now t s (λ e. not_waiting s (subst (λ u. waits_at u s) e w)) w
                     ],
                     λ w. subst (λ xs. Contains xs t) (sym row) (elim (cases_eq t node) [

@@ -1,5 +1,5 @@
 -- Steps of the maps and sets of a replay.
-use Rattle.std.proofs.Common.{◌≡◌, ◌≢◌, ◌⊎◌, inl, inr, ℕ, zero, suc, ◌+◌, ◌<◌, ◌≤◌, Bool, true, false, cond, List, [], ◌∷◌, length, get_or, set, drop, slice_get, Option, Some, None, unwrap_or, ap, sym, ◌∙◌, refl, subst, arith}
+use Rattle.std.proofs.Common.{◌≡◌, ◌≢◌, ◌⊎◌, inl, inr, ℕ, zero, suc, ◌+◌, ◌<◌, ◌≤◌, Bool, true, false, cond, List, [], ◌∷◌, length, get_or, set, slice_get, Option, Some, None, unwrap_or, ap, sym, ◌∙◌, refl, subst, arith}
 use Rattle.std.specs.Prelude.{IsTrue, ◌↔◌}
 use Rattle.std.specs.BTreeMap.{BTreeMap, btree_map_len, get, is_at, Updates}
 use Rattle.std.specs.Map.{lookup}
@@ -15,7 +15,7 @@ use Rattle.sia_events.specs.Refusals.{IsWellFormed}
 use Rattle.sia_events.specs.Transactions.{CommitsAt, IsCommitted}
 use Rattle.sia_events.specs.Replay.{IsOrder}
 use Rattle.sia_events.proofs.Writing.WellFormed.{one_commit}
-use Rattle.sia_graph.specs.Replaying.{AreCommits, AreFirsts, AreNext, first_at, version_in}
+use Rattle.sia_graph.specs.Replaying.{AreCommits, AreFirsts, AreNext, version_in}
 use Rattle.sia_graph.proofs.Shared.Facts.{same_committer}
 use Rattle.sia_graph.proofs.ReplayedTxns.ChainOf.{drop_at}
 
@@ -39,34 +39,18 @@ module _ (h : List Event) where
 
   pub commits_more : IsWellFormed h → (b t : ℕ) (m n : BTreeMap ℕ ℕ) → AreCommitsTo b m → CommitsAt h t (b + 1) → Updates nat_cmp m n t (Some (b + 1)) → AreCommitsTo (b + 1) n
   commits_more wf b t m n before commits u s p = elim (cases_eq t s) [
-    | inl e ↦
-        let here = get_same m n t (Some (b + 1)) u s e in (
-          λ g. let f = same_Some (b + 1) p (sym here ∙ g) in (omega arith, subst (λ x. CommitsAt h x p) e (subst (λ x. CommitsAt h t x) f commits)),
-          λ w. here ∙ ap Some (one_commit h wf s (b + 1) p (subst (λ x. CommitsAt h x (b + 1)) e commits) w.1),
-        )
+    | inl e ↦ grind (arith, cases_eq, get_same, same_Some, one_commit, get_other, cases_lt, same_committer)
     | inr other ↦
         let same = get_other m n t (Some (b + 1)) u s other in (
           λ g. let w = (before s p).0 (sym same ∙ g) in (let l = w.0 in omega arith, w.1),
-          λ w. same ∙ (before s p).1 (
-            elim (cases_lt b p) [
-              | inr few ↦ few
-              | inl more ↦ let f : b + 1 ≡ p = let l = w.0 in omega arith in absurd (other (same_committer h t s (b + 1) p f commits w.1))
-            ],
-            w.1,
-          ),
+          grind (arith, cases_eq, get_same, same_Some, one_commit, get_other, cases_lt, same_committer),
         )
   ]
 
   pub commits_same : (b : ℕ) (m : BTreeMap ℕ ℕ) → AreCommitsTo b m → ((t : ℕ) → ¬ CommitsAt h t (b + 1)) → AreCommitsTo (b + 1) m
   commits_same b m before none s p = (
     λ g. let w = (before s p).0 g in (let l = w.0 in omega arith, w.1),
-    λ w. (before s p).1 (
-      elim (cases_lt b p) [
-        | inr few ↦ few
-        | inl more ↦ let f : p ≡ b + 1 = let l = w.0 in omega arith in absurd (none s (subst (λ x. CommitsAt h s x) f w.1))
-      ],
-      w.1,
-    ),
+    grind (arith, cases_lt),
   )
 
   commit_within : (t p : ℕ) → CommitsAt h t p → p ≤ length h
@@ -84,25 +68,11 @@ module _ (h : List Event) where
       let rest = drop_at h b e there in
       let firsts = before.0 in
       let nexts = before.1 in (
-        λ t. elim (cases_eq (actor e) t) [
-          | inl same ↦
-              ap (λ o. unwrap_or o 0) (get_same m n (actor e) (Some (b + 1)) u t same)
-              ∙ sym (ap (λ l. first_at t (b + 1) l) rest ∙ ap (λ c. cond c (b + 1) (first_at t (b + 1 + 1) (drop (b + 1) h))) (eq-eqb (actor e) t same))
-          | inr other ↦
-              ap (λ o. unwrap_or o 0) (get_other m n (actor e) (Some (b + 1)) u t other)
-              ∙ firsts t
-              ∙ sym (ap (λ l. first_at t (b + 1) l) rest ∙ ap (λ c. cond c (b + 1) (first_at t (b + 1 + 1) (drop (b + 1) h))) (ne_eqb (actor e) t other))
-        ],
+        grind (arith, slice_get_within, drop_at, cases_eq, unwrap_or, get_same, eq-eqb, get_other, ne_eqb, length-set, same_Some, get_or-set_same, get_or-set_other, cases_lt),
         (
           length-set next (b + 1) v ∙ nexts.0,
           λ q f l there'. elim (cases_eq q (b + 1)) [
-            | inl same ↦
-                let g : e ≡ f = same_Some e f (sym at ∙ ap (at_place h) (sym same) ∙ there') in
-                ap (λ x. get_or (set next (b + 1) v) x 0) same
-                ∙ get_or-set_same next (b + 1) v 0 (let a = nexts.0 in omega arith)
-                ∙ is
-                ∙ firsts (actor e)
-                ∙ (λ i. first_at (actor (g i)) (sym same i + 1) (drop (sym same i) h))
+            | inl same ↦ grind (arith, slice_get_within, drop_at, cases_eq, unwrap_or, get_same, eq-eqb, get_other, ne_eqb, length-set, same_Some, get_or-set_same, get_or-set_other, cases_lt)
             | inr other ↦ get_or-set_other next (b + 1) q v 0 other ∙ nexts.1 q f (elim (cases_lt (b + 1) q) [ inl less ↦ less | inr few ↦ absurd (other (omega arith)) ]) there'
           ],
         ),
@@ -124,10 +94,7 @@ among_or_not order t (suc n) = elim (among_or_not order t n) [
   | inl has ↦ inl (has.0, (let l = has.1 in omega arith), has.2)
   | inr lacks ↦ elim (cases_eq (get_or order n 0) t) [
     | inl same ↦ inl (n, omega arith, same)
-    | inr other ↦ inr (λ i l. elim (cases_lt i n) [
-      | inl less ↦ lacks i less
-      | inr more ↦ let e : n ≡ i = omega arith in subst (λ j. get_or order j 0 ≢ t) e other
-    ])
+    | inr other ↦ grind (arith, cases_eq, cases_lt)
   ]
 ]
 
@@ -154,28 +121,19 @@ module _ (h : List Event) (order : List ℕ) where
   taken_more m new n p before has u =
       let own = get_or order n 0 in
       let at = (before.2 own p).0 has in (
-        λ i j l k. elim (cases_lt j n) [
-          | inl less ↦ before.0 i j l less
-          | inr more ↦ let e : n ≡ j = omega arith in subst (λ x. get_or order i 0 ≢ get_or order x 0) e (at.1 i (omega arith))
-        ],
+        grind (arith, cases_lt, cases_eq, get_same, get_other),
         λ i l. elim (cases_lt i n) [
           | inl less ↦ before.1 i less
           | inr more ↦ let e : n ≡ i = omega arith in subst (λ x. IsCommitted h (get_or order x 0)) e (p, at.0)
         ],
         λ t q. elim (cases_eq own t) [
-          | inl same ↦ (
-            (λ g. absurd (let f = sym (get_same m new own None u t same) ∙ g in cc)),
-            (λ w. absurd (w.1 n (omega arith) same)),
-          )
+          | inl same ↦ grind (arith, cases_lt, cases_eq, get_same, get_other)
           | inr other ↦
               let same = get_other m new own None u t other in (
                 λ g.
                     let w = (before.2 t q).0 (sym same ∙ g) in (
                       w.0,
-                      λ i l. elim (cases_lt i n) [
-                        | inl less ↦ w.1 i less
-                        | inr more ↦ let e : n ≡ i = omega arith in subst (λ x. get_or order x 0 ≢ t) e other
-                      ],
+                      grind (arith, cases_lt, cases_eq, get_same, get_other),
                     ),
                 λ w. same ∙ (before.2 t q).1 (w.0, λ i l. w.1 i (omega arith)),
               )

@@ -131,9 +131,7 @@ module _ (targets : List (List ℕ)) (left : List Bool) where
   led_back i previous new below is long led others are = (
     long ∙ are.0,
     λ j l. elim (cases_lt 0 (times j (get_or targets i []))) [
-      | inl some ↦
-          let c = some_times j (get_or targets i []) some in
-          subst (λ p. IsLeastFrom i j p) (sym (led j c)) (inr (below, c, is, λ k a b aims left_k. a))
+      | inl some ↦ grind (arith, cases_lt, some_times, times_some, passed)
       | inr none ↦
           let out : ¬ Contains (get_or targets i []) j = λ c. (let m = times_some j (get_or targets i []) c in omega arith) in
           subst (λ p. IsLeastFrom i j p) (sym (others j out)) (passed i j (get_or previous j 0) (λ c. absurd (out c)) (are.1 j l))

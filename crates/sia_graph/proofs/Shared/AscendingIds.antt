@@ -34,9 +34,5 @@ module _ (ids : List ℕ) (up : IsStrictlyIncreasing ids) where
       let e : get_or ids k 0 ≡ t = get_or_default ids k 0 t c.1 ∙ c.2 in
       elim (cases_lt k i) [
         | inl less ↦ let l = ltb-true (get_or ids k 0) t (point.0 k 0 (omega arith) less) in absurd (omega arith)
-        | inr more ↦
-            let l : i < length ids = omega arith in
-            let m = ltb-false (get_or ids i 0) t (point.1 i 0 (omega arith) l) in
-            let n = ids_no_less i k more c.1 in
-            (l, omega arith)
+        | inr more ↦ grind (arith, get_or_default, cases_lt, ltb-true, ltb-false, ids_no_less)
       ]

@@ -27,15 +27,5 @@ module _ {A : Type 0} (p q : A → Bool) (under : (x : A) → q x ≡ true → p
 
   pub one_fewer : (xs : List A) (i : ℕ) (y : A) → slice_get xs i ≡ Some y → p y ≡ true → q y ≡ false → count_by q xs < count_by p xs
   one_fewer [] i y at a b = cc
-  one_fewer (x ∷ xs) zero y at a b =
-      let e = same_Some x y at in
-      let c = count_first p x xs (ap p e ∙ a) in
-      let d = count_later q x xs (ap q e ∙ b) in
-      let l = counts_fewer xs in
-      omega arith
-  one_fewer (x ∷ xs) (suc i) y at a b =
-      let e = sum_by-cons (λ y. cond (p y) 1 0) x xs in
-      let f = sum_by-cons (λ y. cond (q y) 1 0) x xs in
-      let less = one_fewer xs i y at a b in
-      let l = first_fewer (suc (count_by q xs)) (count_by p xs) x (omega arith) in
-      omega arith
+  one_fewer (x ∷ xs) zero y at a b = grind (arith, same_Some, count_first, count_later, counts_fewer, sum_by-cons, first_fewer)
+  one_fewer (x ∷ xs) (suc i) y at a b = grind (arith, same_Some, count_first, count_later, counts_fewer, sum_by-cons, first_fewer, one_fewer xs i y at a b)

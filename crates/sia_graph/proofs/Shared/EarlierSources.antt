@@ -6,7 +6,6 @@ use Rattle.sia_events.specs.declared.event.Event.{Event}
 use Rattle.sia_events.specs.Lists.{ListsAscending}
 use Rattle.sia_events.specs.NarrowDependencies.{IsNextVersion}
 use Rattle.sia_events.specs.Refusals.{IsWellFormed}
-use Rattle.sia_events.specs.Transactions.{CommitsAt}
 use Rattle.sia_events.proofs.Writing.WellFormed.{one_commit}
 use Rattle.sia_index.proofs.Shared.KeyChains.{key_number}
 use Rattle.sia_index.specs.Info.{IsKeyAt}
@@ -139,10 +138,7 @@ module _ (h : List Event) (wf : IsWellFormed h) (a : Accesses) (left : List Bool
         let w = (ww_positions h wf versions all t u k).0 edge in
         let m = w.2 in
         let n = w.3 in
-        let other : t ≢ u = λ same.
-        (let less = commits_less h w.0 w.1 m.0 n.0 m.1 n.1 (m.2 ∙ sym n.2) w.4 in
-        let one = one_commit h wf u m.0.commit n.0.commit (subst (λ x. CommitsAt h x m.0.commit) same (made_commits h wf w.0 t k m).1) (made_commits h wf w.1 u k n).1 in
-        omega arith) in
+        let other : t ≢ u = grind (arith, ww_positions, commits_less, one_commit, made_commits, no_own, wr_positions, one_number, rw_positions) in
         inl (w.1, (lists.each w.1).1 (n.0, n.1, n.4, n.3), (inl (w.0, omega arith, (m.0, n.0, m.1, n.1, m.2 ∙ sym n.2), (is, m.0, m.1, subst (IsCommittedAt h r) (sym m.3) at, m.4)), no_own r t at other))
     from_edge r t k is at Wr edge =
         let w = (wr_positions h wf versions all a are t u k).0 edge in

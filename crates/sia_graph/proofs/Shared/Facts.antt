@@ -67,8 +67,5 @@ module _ (h : List Event) (wf : IsWellFormed h) where
   pub commit_cases : (t u : ℕ) → IsCommitted h t → IsCommitted h u → (t ≡ u) ⊎ (CommitsBefore h t u ⊎ CommitsBefore h u t)
   commit_cases t u c d = elim (cases_lt c.0 d.0) [
     | inl less ↦ inr (inl (c.0, d.0, c.1, d.1, less))
-    | inr more ↦ elim (cases_lt d.0 c.0) [
-      | inl less ↦ inr (inr (d.0, c.0, d.1, c.1, less))
-      | inr least ↦ inl (same_committer h t u c.0 d.0 (omega arith) c.1 d.1)
-    ]
+    | inr more ↦ grind (arith, cases_lt, same_committer)
   ]

@@ -68,10 +68,7 @@ module _ (M : ℕ → Type 0) (E : Edge → Type 0) where
 
   pub front_more : (front : List ℕ) (t : ℕ) → IsFront M E front → IsReady front t → ((u : ℕ) → IsReady front u → t ≤ u) → IsFront M E (front ++ t ∷ [])
   front_more front t f ready least = record {
-    members = λ u i at. elim (get_cases front (t ∷ []) i u at) [
-      | inl here ↦ f.members u i here
-      | inr w ↦ subst M (only_one u t w.0 w.2).1 ready.0
-    ];
+    members = grind (arith, get_cases, only_one, get_left, slice_get_within, no_later_more, goes_on_ready);
     once = λ u i j a b. by_cases u i j (get_cases front (t ∷ []) i u a) (get_cases front (t ∷ []) j u b);
     closed = λ s u i leads at. elim (get_cases front (t ∷ []) i u at) [
       | inl here ↦ let w = f.closed s u i leads here in (w.0, w.1, get_left front (t ∷ []) w.0 s w.2)

@@ -62,10 +62,7 @@ after_write t k d x f e h p q r = grind arith
 
 by_tests : (k d t n : ℕ) (e : Event) (h : List Event) (es : List (ℕ × Event)) (b w : Bool) → actor e == t ≡ b → is_write_of k e ≡ w
     → ((x : ℕ) → IsLastOwn h t k x (last_from k x es)) → IsLastOwn (e ∷ h) t k d (last_from k d (cond b ((n, e) ∷ es) es))
-by_tests k d t n e h es true true p q rest =
-    let a : actor e ≡ t = eqb-true (actor e) t p in
-    subst (λ y. IsLastOwn (e ∷ h) t k d (last_from k (cond y (actor e) d) es)) (sym q)
-    (after_write t k d (actor e) (last_from k (actor e) es) e h (is_the_write t k e q a) a (rest (actor e)))
+by_tests k d t n e h es true true p q rest = grind (arith, eqb-true, after_write, is_the_write, after_other, not_the_write, eqb-false)
 by_tests k d t n e h es true false p q rest =
     subst (λ y. IsLastOwn (e ∷ h) t k d (last_from k (cond y (actor e) d) es)) (sym q)
     (after_other t k d (last_from k d es) e h (not_the_write t k e q) (rest d))

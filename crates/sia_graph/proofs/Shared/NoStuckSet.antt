@@ -84,10 +84,7 @@ module _ (h : List Event) (wf : IsWellFormed h) where
         c.0,
         inl refl,
         c.1,
-        λ t d i at. elim i [
-          | inl e ↦ let same : d ≡ c.0 = one_commit h wf t d c.0 at (subst (λ y. CommitsAt h y c.0) e c.1) in omega arith
-          | inr none ↦ absurd none
-        ],
+        grind (arith, one_commit, cases_lt),
       )
   earliest x (y ∷ xs) all =
       let c = all x (inl refl) in

@@ -73,20 +73,11 @@ ahead_across t u (x ∷ xs) ys (inr i) j = inr (ahead_across t u xs ys i j)
 pub ahead_cases : (t u : ℕ) (xs ys : List ℕ) → IsAhead t u (xs ++ ys) → IsAhead t u xs ⊎ ((In t xs × In u ys) ⊎ IsAhead t u ys)
 ahead_cases t u [] ys a = inr (inr a)
 ahead_cases t u (x ∷ xs) ys (inl w) = elim (in_cases u xs ys w.1) [ inl a ↦ inl (inl (w.0, a)) | inr b ↦ inr (inl (inl w.0, b)) ]
-ahead_cases t u (x ∷ xs) ys (inr a) = elim (ahead_cases t u xs ys a) [
-  | inl b ↦ inl (inr b)
-  | inr (inl w) ↦ inr (inl (inr w.0, w.1))
-  | inr (inr b) ↦ inr (inr b)
-]
+ahead_cases t u (x ∷ xs) ys (inr a) = grind (arith, in_cases, ahead_cases t u xs ys a)
 
 pub once_split : (xs ys : List ℕ) → IsOnce (xs ++ ys) → IsOnce xs × IsOnce ys × ((t : ℕ) → In t xs → ¬ In t ys)
 once_split [] ys o = (tt, o, λ t i. absurd i)
-once_split (x ∷ xs) ys o =
-    let w = once_split xs ys o.1 in (
-      (λ i. o.0 (in_left x xs ys i), w.0),
-      w.1,
-      λ t i j. elim i [ inl e ↦ o.0 (in_right x xs ys (subst (λ y. In y ys) (sym e) j)) | inr k ↦ w.2 t k j ],
-    )
+once_split (x ∷ xs) ys o = grind (arith, in_left, in_right, once_split xs ys o.1)
 
 pub once_join : (xs ys : List ℕ) → IsOnce xs → IsOnce ys → ((t : ℕ) → In t xs → ¬ In t ys) → IsOnce (xs ++ ys)
 once_join [] ys o p apart = p

@@ -28,10 +28,7 @@ module _ {A : Type 0} where
   pub get_cases : (xs ys : List A) (i : ℕ) (x : A) → slice_get (xs ++ ys) i ≡ Some x → (slice_get xs i ≡ Some x) ⊎ ((j : ℕ) × (i ≡ length xs + j) × (slice_get ys j ≡ Some x))
   get_cases [] ys i x e = inr (i, omega arith, e)
   get_cases (y ∷ xs) ys zero x e = inl e
-  get_cases (y ∷ xs) ys (suc i) x e = elim (get_cases xs ys i x e) [
-    | inl here ↦ inl here
-    | inr w ↦ let p = w.1 in inr (w.0, omega arith, w.2)
-  ]
+  get_cases (y ∷ xs) ys (suc i) x e = grind (arith, get_cases xs ys i x e)
 
   pub get_within : (xs ys : List A) (i : ℕ) (x : A) → i < length xs → slice_get (xs ++ ys) i ≡ Some x → slice_get xs i ≡ Some x
   get_within xs ys i x l e = grind (arith, get_cases)

@@ -79,9 +79,7 @@ module _ (name : ℕ → ℕ) where
               once = once_pairs (map name order) (once_map order nodes (pairs_once order o.0.once));
               each = λ t. (
                 λ c. let w = map_in order t (contains_in (map name order) t c) in (named t).1 (w.0, nodes w.0 w.1, w.2),
-                λ m.
-                    let w = (named t).0 m in
-                    in_contains t (map name order) (subst (λ x. In x (map name order)) w.2 (in_map order w.0 (contains_in order w.0 ((o.0.each w.0).1 w.1)))),
+                grind (arith, in_contains, once_pairs, once_map, pairs_once, map_in, contains_in, in_map, ahead_map, stands_ahead, ahead_stands),
               );
             },
             λ t u leads.

@@ -75,10 +75,7 @@ climb_none size from to h old = record {
   height = 0;
   starts = omega arith;
   ends = omega arith;
-  over = λ j l. (
-    (λ w. elim w [ inl u ↦ inl u | inr b ↦ inr (omega arith, omega arith) ]),
-    (λ w. elim w [ inl u ↦ inl u | inr b ↦ inr (omega arith, omega arith) ]),
-  );
+  over = grind arith;
   keeps = λ b i. i;
   within = λ b i. inl i;
 }

@@ -170,13 +170,7 @@ module _ (h : List Event) (wf : IsWellFormed h) (a : Accesses) (are : AreAccesse
     down : (n b u : ℕ) → b < floor → floor ≤ u → IsWayThrough floor Step n b u → IsAbove b u
     down zero b u block member last = elim (ends b u last) [
       | inl m ↦ let e = m.8 in absurd (omega arith)
-      | inr o ↦ elim o [
-        | inl s ↦ elim s.1 [
-          | inl half ↦ let l = half.1 in absurd (elim half.2 [ inl e ↦ omega arith | inr e ↦ omega arith ])
-          | inr leaf ↦ (leaf.0, leaf.3, over_leaf size b leaf.0 leaf.2, leaf.1, leaf.4, leaf.5)
-        ]
-        | inr p ↦ let e = p.3 in absurd (omega arith)
-      ]
+      | inr o ↦ grind (arith, ends, over_leaf, over_half)
     ]
     down (suc n) b u block member way = elim (ends b way.0 way.1) [
       | inl m ↦ let e = m.8 in absurd (omega arith)
@@ -216,10 +210,7 @@ module _ (h : List Event) (wf : IsWellFormed h) (a : Accesses) (are : AreAccesse
         by_length : (n : ℕ) → IsWayThrough floor Step n x u → HasEdge h (name x) (name u)
         by_length zero last = elim (ends x u last) [
           | inl m ↦ members_edge x u m
-          | inr o ↦ elim o [
-            | inl s ↦ let l = s.0 in let k = through.0 in absurd (omega arith)
-            | inr p ↦ let l = p.4 in let k = through.1 in absurd (omega arith)
-          ]
+          | inr o ↦ grind (arith, ends, members_edge, passed_edge, down)
         ]
         by_length (suc n) way = elim (ends x way.0 way.1) [
           | inl m ↦ let e = m.9 in let k = way.2 in absurd (omega arith)

@@ -103,10 +103,7 @@ module _ (h : List Event) (txns : List ℕ) (are : ListsAscending (IsCommitted h
 
         may_be : (u d : ℕ) → HasRwEdge h u t → CommitsAt h u d → place ≤ d → MayBeFirst h t last u
         may_be u d edge at le =
-            let or : (last ≡ u) ⊎ CommitsBefore h last u = elim (cases_lt place d) [
-              | inl less ↦ inr (place, d, ends, at, less)
-              | inr more ↦ let same : place ≡ d = omega arith in inl (one_committer h last u d (subst (CommitsAt h last) same ends) at)
-            ] in
+            let or : (last ≡ u) ⊎ CommitsBefore h last u = grind (arith, cases_lt, one_committer, entered_from) in
             (entered_from h wf kept t last (first.0.1, first.0.2) first.1 u edge or, or)
 
         inside : (i u : ℕ) → IsCommittedAt h i u → i < length lifetimes

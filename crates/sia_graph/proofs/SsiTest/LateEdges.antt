@@ -100,12 +100,7 @@ module _ (h : List Event) (wf : IsWellFormed h) (kept : IsolationKept h) where
           let c = one_commit h wf own.1.txn next.0 own.1.commit next.1.1 makes.1 in
           let most = next.3 v.txn v.commit (subst (λ k. CommitsVersion h k v.txn v.commit) (sym key) made) less in
           let is : r ≡ own.1.txn = one_txn_at h i r own.1.txn num own.7 in
-          let before : own.1.commit < v.commit = elim (cases_lt own.1.commit v.commit) [
-            | inl l ↦ l
-            | inr m ↦
-                let same : own.1.commit ≡ v.commit = omega arith in
-                absurd (other (is ∙ one_committer h own.1.txn v.txn v.commit (subst (CommitsAt h own.1.txn) same makes.1) made.1))
-          ] in
+          let before : own.1.commit < v.commit = grind (arith, positions_less, one_at, commits_at, one_commit, made, one_txn_at, cases_lt, one_committer) in
           (own.1, positions_less h e q own.1 v own.3 at wkey before, own.3, wkey)
 
     module _ (txns : List ℕ) (txns_are : ListsAscending (IsCommitted h) txns) (size : ℕ) (keys : (j k : ℕ) → IsKeyAt h j k → (size ≡ 0) ⊎ (j < size)) (sized : (i j : ℕ) → size ≡ 0 → ¬ Missed a i j) (values seen most late : List ℕ)

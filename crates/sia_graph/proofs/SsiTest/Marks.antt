@@ -85,11 +85,7 @@ rises_on size leaf most block top next rising positive over here which =
         ]),
         (λ w. elim (cases_lt w.1 e) [
           | inl less ↦ let l = (rising.each x some).1 (w.0, w.1, less, w.3, w.4, w.5, w.6) in omega arith
-          | inr more ↦
-              let f : w.1 ≡ e = let l = w.2 in omega arith in
-              let g : w.0 ≡ block = one_block w.0 block (2 ^ e) leaf (subst (λ n. w.0 * 2 ^ n ≤ leaf) f w.3) (subst (λ n. leaf < (w.0 + 1) * 2 ^ n) f w.4) rising.low rising.high in
-              let l = subst (λ b. x ≤ get_or most b 0) g w.6 in
-              omega arith
+          | inr more ↦ grind (arith, half_over, cases_lt, one_block)
         ]),
       );
     }
