@@ -53,6 +53,5 @@ returns c = (
   (λ no. absurd (true_false _ no refl)),
   (λ is.
       let inside : is.0 < length c.args.edges.now = slice_get_within c.args.edges.now is.0 is.1.0 is.1.2.1 in
-      let end = c.loop-i-test.false in
       absurd (c.loop-i.invariant is.0 (omega arith) is.1)),
 )

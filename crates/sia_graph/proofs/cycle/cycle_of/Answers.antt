@@ -53,7 +53,6 @@ round-preserved c =
     let previous = c.args.previous.now in
     let next = get_or previous c.round.place 0 in
     let home = c.min-home.result in
-    let is = c.min-home.ensures in
     let chosen : ((next < c.round.home) × (home ≡ next)) ⊎ ((c.round.home ≤ next) × (home ≡ c.round.home)) = elim (cases_lt next c.round.home) [
       | inl less ↦ inl (less, omega arith)
       | inr more ↦ inr (more, omega arith)

@@ -52,7 +52,6 @@ module _ (c : After-least_met-ww) (t u : ℕ) (source : IsCommittedAt c.args.evi
 pub returns-then-ww-lt-NONE : goal.returns-then-ww-lt-NONE
 returns-then-ww-lt-NONE c t u source target =
     let h = c.args.evidence.now.index.now in
-    let less = c.if-ww-lt-NONE.true in
     let w = least_key h (FromSome (IsMet h Ww c.made_by-made.result.now) c.made_by.result.now) (WwEdge h t u) (ww (goal.at.returns-then-ww-lt-NONE c).After-least_met-ww t u source target)
     c.least_met-ww.result c.least_met-ww.ensures (λ e. absurd (omega arith)) in
     (w.0, w.1, least_of_kind h t u Ww w.0 w.2 (λ x j l. absurd (omega arith)))

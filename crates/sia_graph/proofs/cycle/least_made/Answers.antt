@@ -46,5 +46,4 @@ returns-in_default c =
     let made = c.args.made.now in
     let place = c.place_from.result in
     let e = is at in
-    let f = c.if-position-to.false in
     none_before c.args.index.now made c.requires c.args.from place (point (goal.at.returns-in_default c).After-place_from) c.args.to (below at) (omega arith)

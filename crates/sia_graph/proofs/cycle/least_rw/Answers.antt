@@ -40,9 +40,6 @@ loop-miss-preserved c =
     let i = c.loop-miss.miss-index in
     let d : RangeMiss = record { from = 0; to = 0 } in
     let w = c.loop-miss.invariant in
-    let f = c.min-least.ensures in
-    let g = w.3 in
-    let b = w.1 in
     let new = c.least_made.result in (
       min w.0 new,
       omega arith,

@@ -1,4 +1,4 @@
-use Rattle.std.proofs.Common.{◌≡◌, ◌≢◌, ℕ, List, [], ◌∷◌, ap, arith, get_or, length, refl, sym, subst}
+use Rattle.std.proofs.Common.{◌≡◌, ◌≢◌, ℕ, List, [], ◌∷◌, arith, get_or, refl, sym, subst}
 use Rattle.sia_events.specs.Lists.{ListsAscending}
 use Rattle.sia_events.specs.Transactions.{IsCommitted}
 use Rattle.sia_graph.specs.Previous.{IsLeftIn}
@@ -56,8 +56,6 @@ pub overflow_cast-txn : goal.overflow_cast-txn
 overflow_cast-txn c =
     let w = left_is (goal.at.overflow_cast-txn c).In-Rest in
     let few = few_txns c.args.evidence.now.index.now c.requires.evidence.well_formed w.0 w.1 in
-    let long = w.2.long in
-    let l = c.loop-txn-test.true in
     omega arith
 
 pub least_source-source-requires-clause-me : goal.least_source-source-requires-clause-me
@@ -99,9 +97,6 @@ cycle_of-requires-clause-least c =
     let txns = c.committed-txns.result.now in
     let left = c.in-Rest.left.items in
     let w = left_is (goal.at.cycle_of-requires-clause-least c).In-Rest in
-    let same = ap (length {A = ℕ}) (one_list_by (λ x. x ∷ []) (IsCommitted h) txns w.0 c.committed-txns.ensures w.1) in
-    let end = c.loop-txn-test.false in
-    let long = w.2.long in
     rw c.deref-in-Rest.ensures.value (subst (AreLeastSources txns (IsEdge h) (IsLeftIn left)) (sym c.deref-in-Rest-2.ensures.value)
     (λ i below. least_source h txns c.committed-txns.ensures left i below (get_or c.loop-txn.previous.items i 0) (c.loop-txn.invariant.1 i (omega arith))))
 

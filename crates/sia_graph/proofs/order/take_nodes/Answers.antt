@@ -48,7 +48,6 @@ loop-node-preserved c =
 
 pub loop-node-2-init : goal.loop-node-2-init
 loop-node-2-init c =
-    let end : c.loop-node.node ≡ (many c.args.size c.args.txns.now) = (let a = c.loop-node-test.false in let b = c.loop-node.auto.node-end in omega arith) in
     let is = c.loop-node.invariant in (
       as_taking c.args.graph.now c.in_ok-done.done.items c.loop-node.taking (not_yet c.loop-node.node) none_pending (many c.args.size c.args.txns.now)
           (λ t l. ap (λ b. cond b 0 1) (lt-ltb t c.loop-node.node (let e = is.1 in omega arith))) is.0,
@@ -73,14 +72,11 @@ pub finish-requires-clause-node : goal.finish-requires-clause-node
 finish-requires-clause-node c =
     let l = within (goal.at.finish-requires-clause-node c).In-Some in
     let e = ap (λ (k : Taking). length k.counts.items) c.in-Some.ensures.same in
-    let long = c.loop-node-2.invariant.1 in
-    let few = c.requires.few in
     (omega arith, omega arith)
 
 pub finish-requires-clause-done : goal.finish-requires-clause-done
 finish-requires-clause-done c =
     let l = within (goal.at.finish-requires-clause-done c).In-Some in
-    let e = c.loop-node-2.invariant.3.done_long in
     ap (λ d. get_or d c.in-Some.node false) c.deref-in-Some.ensures.value ∙ get_or-set_same c.loop-node-2.done.items c.in-Some.node true false (omega arith)
 
 pub finish-requires-clause-is : goal.finish-requires-clause-is
@@ -107,7 +103,6 @@ pub loop-node-2-smaller : goal.loop-node-2-smaller
 loop-node-2-smaller c =
     let before = (goal.at.loop-node-2-smaller c).In-Some in
     let l = within before in
-    let e = c.loop-node-2.invariant.3.done_long in
     fewer_left c.loop-node-2.done.items c.in-Some.node (omega arith) (left before).1
 
 pub loop-node-2-preserved : goal.loop-node-2-preserved
@@ -151,14 +146,11 @@ cases c = cases_from_all _ _ _ (λ d. d ≡ true) (λ d. d ≡ false) c.all.ensu
 pub offset_bounds-txns-node : goal.offset_bounds-txns-node
 offset_bounds-txns-node c =
     let l = within (goal.at.offset_bounds-txns-node c).In-Some in
-    let few = c.requires.few in
-    let f = c.if-node-floor.true in
     omega arith
 
 pub bounds-txns-node : goal.bounds-txns-node
 bounds-txns-node c =
     let l = within (goal.at.bounds-txns-node c).In-Some in
-    let f = c.if-node-floor.true in
     omega arith
 
 pub returns-then-all : goal.returns-then-all
@@ -176,7 +168,6 @@ pub returns : goal.returns
 returns c =
     let floor = 2 * c.args.size in
     let done = c.loop-node-2.done.items in
-    let long = c.loop-node-2.invariant.3.done_long in
     let some = subst (AreAll done) c.if-all.false (subst (λ l. AreAll l c.all.result) c.deref-2.ensures.value (cases (goal.at.returns c).After-all)) in
     let rest = drop floor done in
     let many : length rest ≡ length c.args.txns.now = (let a = length-drop floor done in omega arith) in

@@ -41,7 +41,6 @@ found h txns are n t at is point committed =
 pub overflow_cast-at : goal.overflow_cast-at
 overflow_cast-at c =
     let few = few_txns c.args.ix.now c.law.ensures c.committed-txns.result.now c.committed-txns.ensures in
-    let most = c.place_from-at.ensures.bound in
     omega arith
 
 pub place_from-other-requires : goal.place_from-other-requires
@@ -50,7 +49,6 @@ place_from-other-requires c = ids_rise c.committed-txns.result.now (increasing c
 pub overflow_cast-other : goal.overflow_cast-other
 overflow_cast-other c =
     let few = few_txns c.args.ix.now c.law.ensures c.committed-txns.result.now c.committed-txns.ensures in
-    let most = c.place_from-other.ensures.bound in
     omega arith
 
 pub loop-e-preserved : goal.loop-e-preserved

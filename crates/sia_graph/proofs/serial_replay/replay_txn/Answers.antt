@@ -29,7 +29,6 @@ returns-in-Some-wrong_key-clause-wrong c = λ m is others.
 pub bounds-next-at : goal.bounds-next-at
 bounds-next-at c =
     let l = place_within c.args.h.now c.args.txn (version_in c.args.versions.now) c.loop-at.versions c.loop-at.at c.loop-at.invariant c.loop-at-test.true in
-    let n = c.requires.next.0 in
     omega arith
 
 pub loop-at-smaller : goal.loop-at-smaller

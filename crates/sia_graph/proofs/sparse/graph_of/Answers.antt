@@ -48,7 +48,6 @@ loop-block-preserved c =
     let are = λ (v : Vec ℕ Global). (n : ℕ) → Contains v.items n ↔ IsBlockStep h size b n in
     let steps : are c.if-block-size.targets = elim c.if-block-size.branch [
       | then-block-size+in_ok-put_other w ↦
-          let from = w.if-block-size.true in
           let zero = w.first_position-zero.ensures in
           let first = w.next_maker-first in
           subst are (sym w.targets-is)
@@ -77,19 +76,15 @@ overflow_cast-txn-end c = let few = few_txns c.args.evidence.now.index.now c.req
 pub loop-txn-init : goal.loop-txn-init
 loop-txn-init c =
     let e = c.args.evidence.now in
-    let most = c.loop-block.invariant.1 in
-    let end = c.loop-block-test.false in
     let same : c.loop-block.block ≡ 2 * c.args.size + 0 = omega arith in
     (subst (λ n. HasNodes e.index.now e.accesses.now c.args.size n c.loop-block.graph) same c.loop-block.invariant.0, omega arith)
 
 pub fill-requires-clause-txn : goal.fill-requires-clause-txn
 fill-requires-clause-txn c =
-    let l = c.loop-txn-test.true in
     (get_or c.committed-2.result.now c.loop-txn.txn 0, (c.committed-2.result.now, c.committed-2.ensures, omega arith, refl))
 
 pub put_member_steps-requires-clause-txn : goal.put_member_steps-requires-clause-txn
 put_member_steps-requires-clause-txn c =
-    let l = c.loop-txn-test.true in
     (get_or c.committed-2.result.now c.loop-txn.txn 0, (c.committed-2.result.now, c.committed-2.ensures, omega arith, refl))
 
 pub loop-txn-preserved : goal.loop-txn-preserved

@@ -50,8 +50,6 @@ loop-stretch-preserved c =
     let n = c.loop-stretch.stretch-index in
     let stretch = get_or c.args.stretches.now n none in
     let over = climbed size _ _ c.loop-stretch.blocks.items c.loop-low.blocks.items c.loop-low.low c.loop-low.high put (omega arith) in
-    let low = c.min-from.ensures in
-    let high = c.min-to.ensures in
     let same =
     held_below size stretch.from stretch.to c.min-from.result c.min-to.result
     (elim (cases_lt stretch.from size) [ inl less ↦ inl (omega arith) | inr more ↦ inr (omega arith) ]) (omega arith) (omega arith)

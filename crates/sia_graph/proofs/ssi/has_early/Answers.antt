@@ -77,9 +77,6 @@ loop-position-preserved c p v has there f =
             | in-Some+else-commit_at-place w ↦
                 let x = w.in-Some.ensures v here in
                 let told = next_follows h c.requires.evidence.well_formed q w.in-Some.next v x.0 here x.1 x.2 x.3 x.4 c.args.place in
-                let late = w.if-commit_at-place.false in
-                let commit = w.commit_at.ensures x.0 x.1 in
-                let by = told.1 f in
                 absurd (omega arith)
             | in_default w ↦ absurd (none_follows h c.requires.evidence.well_formed v (w.in_default.ensures v here) c.args.place f)
           ]

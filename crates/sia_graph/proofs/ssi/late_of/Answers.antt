@@ -28,13 +28,11 @@ loop-txn-init c =
 pub fill-requires-clause-txn : goal.fill-requires-clause-txn
 fill-requires-clause-txn c =
     let txns = c.requires.values in
-    let l = c.loop-txn-test.true in
     (get_or txns.0 c.loop-txn.txn 0, (txns.0, txns.1, (let e = txns.2 in omega arith), refl))
 
 pub raise_stands-requires-clause-txn : goal.raise_stands-requires-clause-txn
 raise_stands-requires-clause-txn c =
     let txns = c.requires.values in
-    let l = c.loop-txn-test.true in
     (get_or txns.0 c.loop-txn.txn 0, (txns.0, txns.1, (let e = txns.2 in omega arith), refl))
 
 pub raise_stands-requires-clause-own : goal.raise_stands-requires-clause-own
@@ -48,7 +46,6 @@ pub raise_all-requires : goal.raise_all-requires
 raise_all-requires c k d l =
     let blocks = c.deref-in-loop-txn-2.result.now in
     let b = get_or blocks k d in
-    let long = c.loop-txn.invariant.1.long in
     elim (c.in_ok-put_all_blocks.ensures.within b (subst (λ (xs : List ℕ). Contains xs b) c.deref-in-loop-txn-2.ensures.value (Contains-get_or blocks k d l))) [
       | inl none ↦ let l = (subst (λ (xs : List ℕ). Contains xs b) c.clear.ensures.items none).1 in absurd (omega arith)
       | inr w ↦ let l = w.1 in omega arith
@@ -130,8 +127,6 @@ top_of-last-requires-clause-within c =
 inside : (c : After-commit_at) → c.loop-position.position < length c.loop-position.seen
 inside c =
     let e = one_count c.args.evidence.now.index.now _ _ c.position_count-position-end.ensures c.loop-txn.invariant.0.long in
-    let long = c.loop-position.invariant.0.long in
-    let l = c.loop-position-test.true in
     omega arith
 
 pub bounds-seen-position : goal.bounds-seen-position

@@ -64,14 +64,12 @@ overflow_cast-txn-end c = let few = few_txns c.args.evidence.now.index.now c.req
 
 pub greatest_entering-requires-clause-txn : goal.greatest_entering-requires-clause-txn
 greatest_entering-requires-clause-txn c =
-    let l = c.loop-txn-test.true in
     (get_or c.committed-count.result.now c.loop-txn.txn 0, (c.committed-count.result.now, c.committed-count.ensures, omega arith, refl))
 
 pub returns-then-greatest_entering-gt0 : goal.returns-then-greatest_entering-gt0
 returns-then-greatest_entering-gt0 c t at =
     let before = (goal.at.returns-then-greatest_entering-gt0 c).In_ok-late in
     let n = c.loop-txn.txn in
-    let l = c.loop-txn-test.true in
     let u = get_or (txns before) n 0 in
     let number : IsCommittedAt (h before) n u = (txns before, c.committed-count.ensures, omega arith, refl) in
     let late = lates before c.deref-then-is_early.result.now c.deref-then-is_early.ensures.value in
@@ -91,14 +89,10 @@ loop-txn-preserved c = (
         elim c.else-is_early.branch [
           | else-is_early-via-then-is_early+else-greatest_entering-gt0 w ↦
               let late = lates before w.deref-then-is_early.result.now w.deref-then-is_early.ensures.value in
-              let some = reached.5 in
               let enters = (w.greatest_entering.ensures (values before) u late here 1 (omega arith)).1 (reached.1, reached.4, omega arith) in
-              let none = w.if-greatest_entering-gt0.false in
               omega arith
           | else-is_early-via-else-is_early w ↦
               let one = one_commit (h before) c.requires.evidence.well_formed u reached.0 _ reached.2 (ends before c.loop-txn.txn u here) in
-              let le = reached.3 in
-              let late = w.if-is_early.false in
               omega arith
         ]
   ],

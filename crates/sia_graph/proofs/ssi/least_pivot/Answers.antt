@@ -59,7 +59,6 @@ overflow_cast-txn-end c = let few = few_txns c.args.evidence.now.index.now c.req
 pub overflow_sub-last : goal.overflow_sub-last
 overflow_sub-last c =
     let start = goal.at.overflow_sub-last c in
-    let l = c.loop-txn-test.true in
     let t = get_or c.committed-txns.result.now c.loop-txn.txn 0 in
     let number : IsCommittedAt c.args.evidence.now.index.now c.loop-txn.txn t = (c.committed-txns.result.now, c.committed-txns.ensures, omega arith, refl) in
     let p = positive start.In_ok-late (commits_are start.In_ok-commits) c.loop-txn.txn t number in
@@ -67,27 +66,23 @@ overflow_sub-last c =
 
 pub greatest_entering-requires-clause-txn : goal.greatest_entering-requires-clause-txn
 greatest_entering-requires-clause-txn c =
-    let l = c.loop-txn-test.true in
     (get_or c.committed-txns.result.now c.loop-txn.txn 0, (c.committed-txns.result.now, c.committed-txns.ensures, omega arith, refl))
 
 pub has_early-requires-clause-txn : goal.has_early-requires-clause-txn
 has_early-requires-clause-txn c =
     let start = goal.at.has_early-requires-clause-txn c in
     let n = c.loop-txn.txn in
-    let l = c.loop-txn-test.true in
     let t = get_or c.committed-txns.result.now n 0 in
     let number : IsCommittedAt c.args.evidence.now.index.now n t = (c.committed-txns.result.now, c.committed-txns.ensures, omega arith, refl) in
     let before = start.In_ok-late in
     let is = commits_are start.In_ok-commits in
     let p = positive before is n t number in
-    let m = c.min-limit.ensures in
     (t, (get_or c.lifetimes-lifetimes.result.now n no_lifetime).commit, number, ends before is n t number, omega arith)
 
 pub returns-then-has_early : goal.returns-then-has_early
 returns-then-has_early c =
     let start = goal.at.returns-then-has_early c in
     let n = c.loop-txn.txn in
-    let l = c.loop-txn-test.true in
     let t = get_or c.committed-txns.result.now n 0 in
     let number : IsCommittedAt c.args.evidence.now.index.now n t = (c.committed-txns.result.now, c.committed-txns.ensures, omega arith, refl) in
     let before = start.In_ok-late in

@@ -8,7 +8,6 @@ loop-block-preserved c =
     let most = c.args.most.now in
     let b = c.loop-block.block in
     let top = c.loop-block.top in
-    let is = c.max-top.ensures in
     rises_on c.args.size (c.args.size + c.args.key) most b top c.max-top.result c.loop-block.invariant c.loop-block-test.true (omega arith) (omega arith)
     (elim (cases_lt top (get_or most b 0)) [ inl less ↦ inr (omega arith) | inr more ↦ inl (omega arith) ])
 

@@ -13,8 +13,6 @@ slice_copy_out-earlier c =
     let at = below_positions h c.position_count-position-end.result c.loop-position.position c.position_count-position-end.ensures c.loop-position-test.true in
     let long = one_count h _ _ c.position_count-position-end.ensures c.requires in
     let less = (c.in-Some.ensures at.0 at.1).5 in
-    let l = c.loop-position-test.true in
-    let e = c.loop-position.auto.twos in
     omega arith
 
 pub slice_copy_out-with : goal.slice_copy_out-with

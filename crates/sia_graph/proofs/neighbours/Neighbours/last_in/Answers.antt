@@ -45,7 +45,6 @@ loop-row-preserved c =
                 let is = p.1 in
                 let own = one_txn_at h row.txn is.1 u.0 is.2 u.1 in
                 let same = one_commit h c.requires.evidence.well_formed u.0 p.0 _ (subst (λ s. CommitsAt h s p.0) own is.3) life.1 in
-                let le = p.2 in
                 omega arith),
           ))
       | else-eq w ↦ rw w.last-is (last_same (FromFirst (InCommits h) xs n) (FromFirst (InCommits h) xs (n + 1)) c.loop-row.last (λ y. (

@@ -8,6 +8,4 @@ pub returns : goal.returns
 returns c =
     let same = one_count c.args.self.now.evidence.index.now _ _ c.position_count-positions.ensures c.requires.looks.long in
     let long = ap (length {A = Reading}) c.rows.ensures in
-    let all = c.len.ensures in
-    let ok = c.args.self.now.passings.ok in
     omega arith

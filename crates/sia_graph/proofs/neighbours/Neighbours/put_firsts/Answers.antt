@@ -2,7 +2,6 @@
 use Rattle.std.proofs.Common.{◌≡◌, ◌∷◌, ◌++◌, ◌+◌, ◌<◌, ◌≤◌, ◌∙◌, [], ℕ, List, length, get_or, refl, ap, sym, subst, append_assoc, arith}
 use Rattle.std.specs.Prelude.{Contains}
 use Rattle.std.proofs.lemmas.Bool.{false≢true}
-use Rattle.std.proofs.lemmas.List.{length-append}
 use Rattle.std.proofs.lemmas.List.Elements.{Contains-get_or}
 use Rattle.std.proofs.lemmas.List.Sums.{count_by_more_yes}
 use Rattle.sia_index.specs.declared.info.Lifetime.{Lifetime}
@@ -51,10 +50,6 @@ push_reserved-requires c =
     let test = out_is (get_or rows c.loop-i.i none) (subst (λ (n : Neighbour). n.role ≡ Out) (next a) (same_role _ Out (sym c.eq.ensures ∙ c.if-eq.true))) in
     let more = count_by_more_yes is_out rows c.loop-i.i none (inside a) test in
     let most = outs_most rows (c.loop-i.i + 1) in
-    let few = c.loop-i.invariant.2 in
-    let same = c.loop-i.invariant.3 in
-    let room = c.requires.room in
-    let ok = c.loop-i.rows.ok in
     omega arith
 
 pub loop-i-preserved : goal.loop-i-preserved
@@ -69,7 +64,6 @@ loop-i-preserved c =
     let P = IsFirstOf h number in
     let o = c.index.result.now in
     let front = c.loop-i.invariant.0 in
-    let few = c.loop-i.invariant.2 in
     let live = lived h c.lifetimes-lifetimes.result.now c.lifetimes-lifetimes.ensures in
     let own = (live number t.0 t.1).1 unlived in
     let rise = outs_rise rows i none (inside a) in
@@ -82,7 +76,6 @@ loop-i-preserved c =
           let test = out_is (get_or rows i none) (subst (λ (n : Neighbour). n.role ≡ Out) (next a) role) in
           let more = count_by_more_yes is_out rows i none (inside a) test in
           let row : Neighbour = record { role = First; txn = o.txn } in
-          let long = ap (length {A = Neighbour}) w.push_reserved.ensures.items ∙ length-append c.loop-i.rows.items (row ∷ []) in
           rw w.rows-is (
             (front.0 ++ row ∷ [], w.push_reserved.ensures.items ∙ ap (λ (ys : List Neighbour). ys ++ row ∷ []) front.1 ∙ append_assoc rows front.0 (row ∷ [])),
             from_more P rows i none _ _ _ (inside a) c.loop-i.invariant.1 (rw (w.push_reserved.ensures.items, ← next a) (adds_push (P o) c.loop-i.rows.items row (role, refl, first) (λ n p. sym p.1))),
@@ -96,9 +89,6 @@ loop-i-preserved c =
               | else-eq-via-then-eq+else-lifetimes-txn e ↦
                   let u = is_at a p.0 in
                   let tells = early h wf number t.0 t.1 rows c.requires.ends _ c.args.last own.1 c.requires.last o (holds a) p.0 u.0 _ u.1 ((live o.txn u.0 u.1).1 unlived).1 in
-                  let le = tells.1 p.2 in
-                  let is = c.min-last.ensures in
-                  let more = e.if-lifetimes-txn.false in
                   omega arith
               | else-eq-via-else-eq e ↦ false≢true (sym e.if-eq.false ∙ c.eq.ensures ∙ role_same o.role Out p.0)
             ]))),
@@ -112,7 +102,6 @@ returns c =
     let h = c.args.self.now.evidence.index.now in
     let t = c.requires.number in
     let rows = c.args.rows.now.items in
-    let last = c.loop-i-test.false in
     let all : length rows ≤ c.loop-i.i = (let long = c.len-i-end.ensures in let ok = c.args.rows.now.ok in omega arith) in
     let few = c.loop-i.invariant.2 in
     let most = outs_most rows c.loop-i.i in

@@ -62,10 +62,6 @@ pub put_lookers-requires-clause-room : goal.put_lookers-requires-clause-room
 put_lookers-requires-clause-room c =
     let seen = fits (goal.at.put_lookers-requires-clause-room c).After-first_position in
     let all = noted_all c.args.self.now.looks (slice_index c.made_by-position-items.result.now c.loop-position.position-index) in
-    let most = c.loop-position.invariant.2 in
-    let few = c.loop-position.invariant.3.few in
-    let same = c.loop-position.invariant.3.room in
-    let room = c.requires.room in
     omega arith
 
 pub put_passers-passed-requires-clause-from : goal.put_passers-passed-requires-clause-from
@@ -78,12 +74,7 @@ pub put_passers-passed-requires-clause-room : goal.put_passers-passed-requires-c
 put_passers-passed-requires-clause-room c =
     let seen = fits (goal.at.put_passers-passed-requires-clause-room c).After-first_position in
     let all = noted_all c.args.self.now.looks (slice_index c.made_by-position-items.result.now c.loop-position.position-index) in
-    let most = c.loop-position.invariant.2 in
     let few = c.loop-position.invariant.3.few in
-    let same = c.loop-position.invariant.3.room in
-    let more = c.put_lookers.ensures.few in
-    let again = c.put_lookers.ensures.room in
-    let room = c.requires.room in
     omega arith
 
 pub loop-position-preserved : goal.loop-position-preserved
@@ -105,9 +96,6 @@ loop-position-preserved c =
         few = (
             let seen = fits w in
             let few = before.few in
-            let lookers = c.put_lookers.ensures.few in
-            let more = passers.few in
-            let behind = c.put_passers-passed.ensures.behind in
             omega arith);
         room = passers.room ∙ c.put_lookers.ensures.room ∙ before.room;
       },

@@ -31,17 +31,12 @@ put_if_overlaps-requires-clause-room c =
     let looks = c.args.self.now.looks in
     let q = c.loop-position.position in
     let to = position_below c.args.self.now.evidence.index.now _ c.args.to c.requires.to.0 c.requires.can.looks.long c.requires.to.1 in
-    let less = c.loop-position-test.true in
     let more = noted_more looks q (omega arith) in
     let rest = noted_rises looks (q + 1) c.args.to (omega arith) in
     let low = noted_rises looks c.args.from q c.loop-position.auto.position in
     let long = ap (length {A = Reading}) c.at-look-items.ensures in
-    let below = c.loop-look-test.true in
     let room = c.requires.room in
     let few = c.loop-position.invariant.few in
-    let same = c.loop-position.invariant.room in
-    let own = c.loop-look.invariant.few in
-    let again = c.loop-look.invariant.room in
     omega arith
 
 pub loop-look-preserved : goal.loop-look-preserved
@@ -57,11 +52,9 @@ loop-position-preserved c =
     let P = IsLookRow self c.args.number in
     let q = c.loop-position.position in
     let to = position_below self.evidence.index.now _ c.args.to c.requires.to.0 c.requires.can.looks.long c.requires.to.1 in
-    let less = c.loop-position-test.true in
     let more = noted_more self.looks q (omega arith) in
     let low = noted_rises self.looks c.args.from q c.loop-position.auto.position in
     let long = ap (length {A = Reading}) c.at-look-items.ensures in
-    let most = c.loop-look.auto in
     puts_then (IsLookerRow self c.args.number c.args.from q) (FromSome P (slice_index_or self.looks q [])) (IsLookerRow self c.args.number c.args.from (q + 1)) (noted_between self.looks c.args.from q) c.loop-look.look-index
     (noted_between self.looks c.args.from (q + 1)) _ _ _ (omega arith) (lookers_more self c.args.number c.args.from q c.loop-position.auto.position) c.loop-position.invariant
     (subst (λ xs. PutsMore (FromSome P xs) c.loop-look.look-index c.loop-position.rows c.loop-look.rows) (take_all c.loop-look.look-index c.at-look-items.result.now c.loop-look-test.false ∙ c.at-look-items.ensures) c.loop-look.invariant)

@@ -44,11 +44,6 @@ put_if_overlaps-requires-clause-room c =
     let x = c.loop-next.invariant.1 v.0 v.1 in
     let w = c.in-Some.ensures x.0 x.1 in
     let below = positions_below c.args.self.now.evidence.index.now (length c.args.self.now.looks) c.in-Some.next c.requires.can.looks.long (w.0, w.1) in
-    let more = w.5 in
-    let low = c.loop-next.invariant.0 in
-    let few = x.4.few in
-    let same = x.4.room in
-    let room = c.requires.room in
     omega arith
 
 pub loop-next-smaller : goal.loop-next-smaller
@@ -57,7 +52,6 @@ loop-next-smaller c =
     let x = c.loop-next.invariant.1 v.0 v.1 in
     let w = c.in-Some.ensures x.0 x.1 in
     let below = positions_below c.args.self.now.evidence.index.now _ c.in-Some.next c.position_count-positions.ensures (w.0, w.1) in
-    let more = w.5 in
     omega arith
 
 pub loop-next-preserved : goal.loop-next-preserved
@@ -72,8 +66,6 @@ loop-next-preserved c = (
       let made = commits_at h c.in-Some.next w.0 w.1 w.3 in
       let is = subst (λ n. IsCommittedAt h n w.0.txn) (sym c.unwrap_or-maker.ensures) (maker_is h i c.maker_at.result w.0 (c.maker_at.ensures w.0 w.1) w.3) in
       let up = commits_less h c.loop-next.at c.in-Some.next x.0 w.0 x.1 w.1 (sym w.2) w.5 in
-      let more = w.5 in
-      let low = c.loop-next.invariant.0 in
       let least = x.3 in (
         w.0,
         w.1,
@@ -89,7 +81,6 @@ overflow_add-result c =
     let v = c.requires.position in
     let x = c.loop-next.invariant.1 v.0 v.1 in
     let below = positions_below c.args.self.now.evidence.index.now _ c.loop-next.at c.position_count-positions.ensures (x.0, x.1) in
-    let fits = c.position_count-positions.auto in
     omega arith
 
 pub returns-clause-end : goal.returns-clause-end
@@ -103,5 +94,4 @@ returns-clause-puts c =
     let h = c.args.self.now.evidence.index.now in
     let v = c.requires.position in
     let x = c.loop-next.invariant.1 v.0 v.1 in
-    let low = c.loop-next.invariant.0 in
     puts_like _ _ _ _ _ _ (omega arith) (outs_same _ _ (up_to_last h c.args.number c.requires.can.evidence.well_formed v.0 x.0 x.2 (c.in_default.ensures x.0 x.1) c.args.position v.1)) x.4

@@ -75,11 +75,6 @@ put_firsts-requires-clause-room c =
     let apart = rows_apart (Contains rows) sorted (sorted_rows rows sorted c.sort.ensures.sorted c.sort.ensures.same) in
     let some = few_outs sorted outs apart (λ n c' role. (c.put_outs.ensures.adds n).1 (inr (role, subst (λ r. HasRole h i r n.txn) role ((are n).0 c').1))) in
     let all = few_within sorted rows apart (λ k d below. (c.sort.ensures.same (get_or sorted k d)).0 (Contains-get_or sorted k d below)) in
-    let none = ap (length {A = Neighbour}) c.clear.ensures.items in
-    let first = c.put_outs.ensures.few in
-    let then = c.put_ins.ensures.few in
-    let same = c.sort.ensures.room ∙ c.put_ins.ensures.room ∙ c.put_outs.ensures.room ∙ c.clear.ensures.capacity in
-    let room = c.requires.room in
     omega arith
 
 pub returns-clause-found : goal.returns-clause-found

@@ -10,7 +10,6 @@ use Rattle.sia_parts.proofs.Shared.FewNumbers.{few_keys}
 use Rattle.sia_graph.specs.Found.{missed_of, saw_of}
 use Rattle.sia_graph.specs.Links.{IsVulnerableAt, OverlapsBehind, OverlapsIn}
 use Rattle.sia_graph.proofs.OfPivots.Outs.{IsOut, adds_same_outs, adds_then, all_outs, ends_more, ends_same, ends_within, first_all, keys_more, keys_none, miss_at, misses_more, missed_all, outs_both, outs_same, puts_like, puts_then, saw_all, saw_at, seen_held, span, takes_later, takes_more}
-use Rattle.sia_graph.proofs.Shared.PositionTwos.{positions_below}
 use Rattle.sia_graph.proofs.neighbours.Neighbours.put_outs.Goals as goal
 use Rattle.sia_graph.proofs.neighbours.Neighbours.put_outs.Goals.{then-position-end, else-position-end}
 
@@ -79,12 +78,8 @@ first_position-requires c =
 pub put_makers-requires-clause-room : goal.put_makers-requires-clause-room
 put_makers-requires-clause-room c =
     let first = c.first_position.ensures in
-    let below = positions_below c.args.self.now.evidence.index.now (length c.args.self.now.looks) c.first_position.result c.requires.can.looks.long (first.0, first.1) in
     let takes = c.loop-key.invariant.2 in
     let low = takes.stand c.in-Some.key c.first_position.result c.in-Some.ensures.0 (record { version = first.0; at = first.1; key = first.2 }) in
-    let few = takes.few in
-    let same = takes.room in
-    let room = c.requires.room in
     omega arith
 
 pub overflow_add-from : goal.overflow_add-from

@@ -30,7 +30,6 @@ next_below-requires-clause-minima_are c = rw (c.deref-in-loop-next.ensures.value
 
 pub put_if_overlaps-requires-clause-other : goal.put_if_overlaps-requires-clause-other
 put_if_overlaps-requires-clause-other c =
-    let most = bound (goal.at.put_if_overlaps-requires-clause-other c).After-from-limit in
     let high = c.in-Some.ensures.1 in
     subst (λ (p : Passing). (u : ℕ) × IsCommittedAt c.args.self.now.evidence.index.now p.reader u) (sym c.index.ensures) (passer_at c.args.self.now c.requires.can c.in-Some.next c.index.result.now (omega arith))
 

@@ -55,7 +55,6 @@ is_woken c m n counted next =
     let is = c.waiting.invariant.0 in
     let first = c.index-in-waiting.result.now in
     let inside = (waits c).0 in
-    let long = is.under_way.next_long in
     let link = next ∙ get_or_default k.next_waiting.items first n 0 (omega arith) in
     let more = one_more first (to_take c) in
     let same = length-set k.counts.items first (m + 1) in
@@ -69,14 +68,11 @@ is_woken c m n counted next =
 pub index-requires-in-waiting-2 : goal.index-requires-in-waiting-2
 index-requires-in-waiting-2 c =
     let inside = (waits (goal.at.index-requires-in-waiting-2 c).After-index-in-waiting).0 in
-    let n = c.waiting.invariant.0.under_way.next_long in
-    let ok = c.waiting.self.next_waiting.ok.0 in
     omega arith
 
 pub index_mut-requires-in-waiting : goal.index_mut-requires-in-waiting
 index_mut-requires-in-waiting c =
     let inside = (waits (goal.at.index_mut-requires-in-waiting c).After-index-in-waiting).0 in
-    let ok = c.waiting.self.counts.ok.0 in
     omega arith
 
 pub overflow_add-index_mut : goal.overflow_add-index_mut
@@ -90,8 +86,6 @@ pub release-requires-clause-node : goal.release-requires-clause-node
 release-requires-clause-node c =
     let inside = (waits (goal.at.release-requires-clause-node c).After-index-in-waiting).0 in
     let long = length-set c.waiting.self.counts.items c.index-in-waiting.result.now (c.index_mut-in-waiting.result.now + 1) in
-    let b = c.waiting.invariant.1 in
-    let few = c.requires.node.1 in
     (omega arith, omega arith)
 
 pub release-requires-clause-is : goal.release-requires-clause-is
@@ -141,9 +135,6 @@ release-requires-in-loop-target-clause-node c =
     let t = get_or items i 0 in
     let row : Contains (get_or c.args.graph.now.targets c.args.node []) t = subst (λ r. Contains r t) c.at-target-items.ensures (i, c.loop-target-test.true, get_or_default items i t 0 c.loop-target-test.true) in
     let l = (c.requires.graph.within c.args.node t (inl row)).1 in
-    let a = c.loop-target.invariant.1 in
-    let d = c.waiting.invariant.1 in
-    let few = c.requires.node.1 in
     (omega arith, omega arith)
 
 pub release-requires-in-loop-target-clause-is : goal.release-requires-in-loop-target-clause-is

@@ -19,10 +19,8 @@ returns-then-index-gt1-clause-is c pending less waking is fewer =
     let below = c.requires.node.0 in
     let v = c.index_mut.result.now - 1 in
     let old = c.index_mut.ensures.value ∙ get_or_default k.counts.items node c.index_mut.result.now 0 below in
-    let at = c.index.ensures in
     let long = length-set k.counts.items node v in
     let same = get_or-set_same k.counts.items node v c.index.result.now below in
-    let more = c.if-index-gt1.true in
     record {
       under_way = under_way_held c.args.graph.now c.args.done.now k node below v c.index_mut.result.now old refl pending less waking is fewer (omega arith);
       ready = ready_held c.args.graph.now c.args.done.now k node below v c.index_mut.result.now old refl pending less waking is fewer;
@@ -61,12 +59,9 @@ returns-then-place-sources-clause-is c pending less waking is fewer =
     let below = c.requires.node.0 in
     let v = c.index_mut.result.now - 1 in
     let old = c.index_mut.ensures.value ∙ get_or_default k.counts.items node c.index_mut.result.now 0 below in
-    let kept = c.index.ensures in
     let long = length-set k.counts.items node v in
     let same = get_or-set_same k.counts.items node v c.index.result.now below in
-    let few = c.if-index-gt1.false in
     let w = is.under_way in
-    let l = w.first_long in
     let passed = w.passed_long in
     let p = c.in_ok-self.field-0 in
     let stored = same_place c.try_from.result c.ok.result p c.loop-place.place c.try_from.ensures c.ok.ensures.value c.in_ok-self.ensures.ok_part in
@@ -106,11 +101,9 @@ freed c pending less waking is fewer =
     let below = c.requires.node.0 in
     let v = c.index_mut.result.now - 1 in
     let old = c.index_mut.ensures.value ∙ get_or_default k.counts.items node c.index_mut.result.now 0 below in
-    let kept = c.index.ensures in
     let long = length-set k.counts.items node v in
     let longer = length-set (set k.counts.items node v) node 0 in
     let same = get_or-set_same k.counts.items node v c.index.result.now below in
-    let few = c.if-index-gt1.false in
     let m = many c.args.graph.now c.args.done.now k node below v c.index_mut.result.now old refl pending less waking is fewer in
     let once = is.before.once node in (
       under_way_free c.args.graph.now c.args.done.now k node below v c.index_mut.result.now old refl pending less waking is fewer (omega arith)
@@ -164,7 +157,6 @@ returns-in_ok-push-clause-is c pending less waking is fewer =
 pub returns-else-node-self-clause-is : goal.returns-else-node-self-clause-is
 returns-else-node-self-clause-is c pending less waking is fewer =
     let f = freed (goal.at.returns-else-node-self-clause-is c).Else-place-sources pending less waking is fewer in
-    let past = c.if-node-self.false in
     record {
       under_way = f.0;
       ready = f.1 (IsBehind c.args.self.now) (λ i. ((λ b. inl b), (λ b. elim b [ inl had ↦ had | inr w ↦ absurd (let x = w.1 in omega arith) ])));

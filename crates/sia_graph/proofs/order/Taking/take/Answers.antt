@@ -40,10 +40,6 @@ returns-then-first-other c =
     let others = heap_items k.others in
     let rest = c.pop_front.new.self.items in
     let read = firsts (goal.at.returns-then-first-other c).After-unwrap_or-other in
-    let first = read.0 in
-    let other = read.1 in
-    let fits : c.unwrap_or-other.result.0 < 18446744073709551616 = c.unwrap_or-other.type_inv.1.1.0.1 in
-    let less : c.unwrap_or-first.result < c.unwrap_or-other.result.0 = c.if-first-other.true in
     let some : 0 < length run = elim (cases_lt 0 (length run)) [ inl l ↦ l | inr none ↦ absurd (let e = get_or_past run 0 last none in omega arith) ] in
     let popped = c.pop_front.ensures.value last (let e = k.run.ok.0 in omega arith) in
     let whole : run ≡ get_or run 0 last ∷ rest = c.pop_front.ensures.items ∙ ap (λ r. option_to_list r ++ rest) popped in
@@ -60,9 +56,6 @@ returns c =
     let others = heap_items k.others in
     let place = c.in-Some.field-0 in
     let read = firsts (goal.at.returns c).After-unwrap_or-other in
-    let first = read.0 in
-    let other = read.1 in
-    let more = c.if-first-other.false in
     let order = c.in-Some.ensures.heap_order c.requires.0.order in
     let long = length_permutation others (place ∷ heap_items c.pop.new.self) c.in-Some.ensures.permutation in
     let top : (get_or others 0 most).0 ≡ place.0 = ap (λ x. x.0) (get_or_default others 0 most place (omega arith) ∙ sym c.in-Some.ensures.top) in
@@ -75,13 +68,9 @@ returns c =
 emptied : (c : In_default) → AreFirsts c.args.self.now c.unwrap_or-first.result c.unwrap_or-other.result → (i : ℕ) → held c.args.self.now.run.items (heap_items c.args.self.now.others) i ≡ 0
 emptied c read =
     let k = c.args.self.now in
-    let first = read.0 in
     let none = c.in_default.ensures.none in
     let long : length (heap_items k.others) ≡ 0 = (let e = k.others.data.ok.0 in omega arith) in
     let other : c.unwrap_or-other.result.0 ≡ last = read.1 ∙ ap (λ x. x.0) (get_or_past (heap_items k.others) 0 most (omega arith)) in
-    let more = c.if-first-other.false in
-    let small = k.counts.small in
-    let l = k.counts.ok.0 in
     none_held k.run.items (heap_items k.others) (empty_run k.run.items (heap_items k.others) k.end c.requires.0 (let w = c.requires.1 in let b = k.counts.ok.1 in omega arith) (omega arith)) long
 
 -- the first place in the rest of a list at which nothing is left, and in the list

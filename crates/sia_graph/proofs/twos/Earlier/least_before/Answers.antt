@@ -13,7 +13,6 @@ pub index-requires : goal.index-requires
 index-requires c =
     let is = c.requires.is in
     let l = positions_below c.args.index.now _ c.args.position is.3.makers_long c.requires.position in
-    let ok = c.args.self.now.makers.ok.0 in
     omega arith
 
 pub loop-block-init : goal.loop-block-init
@@ -22,7 +21,6 @@ loop-block-init c =
     let leaf = c.args.self.now.size + c.key_at-key.result in
     elim c.if-key-self.branch [
       | then-key-self w ↦
-          let l = w.if-key-self.true in
           let is = w.block-is in
           ((λ less. (subst (λ b. IsRising c.args.self.now.passed.items leaf me b 4294967295) (sym is) (rises_from c.args.self.now.passed.items leaf me), omega arith)), (λ most. absurd (omega arith)), omega arith)
       | else-key-self w ↦ let m = w.if-key-self.false in ((λ less. absurd (omega arith)), (λ most. (w.block-is, refl)), omega arith)
@@ -38,8 +36,6 @@ loop-block-preserved c =
     let leaf = c.args.self.now.size + c.key_at-key.result in
     let below = over_key (goal.at.loop-block-preserved c).In-loop-block in
     let so = c.loop-block.invariant.0 below in
-    let l = so.1 in
-    let long = c.requires.is.3.passed_long in
     let node = c.index-in-loop-block.result.now in
     let is = c.index-in-loop-block.ensures in (
       (λ less. (
@@ -58,7 +54,6 @@ index-requires-in-Some c =
     let is = c.requires.is.3 in
     let l = positions_below c.args.index.now _ c.args.position is.makers_long c.requires.position in
     let b = before_less c.args.index.now c.args.position c.requires.position c.position_before.result c.position_before.ensures c.in-Some.before c.in-Some.is in
-    let e = is.readers_long in
     omega arith
 
 pub returns : goal.returns
@@ -83,12 +78,10 @@ returns c a left are =
           subst (IsLeastNumber (λ r. IsLeftPasser a left key r × (r ≢ me))) (sym (c.loop-block.invariant.1 most).1)
           (least_none _ (λ r w. elim (key_within h a size are.size key v.0.key (c.key_at-key.ensures v.0 v.1)) [ inl less ↦ omega arith | inr nobody ↦ nobody r w.0.1 ]))
     ] in
-    let few = c.loop-block.invariant.2 in
     let seen : IsLeastNumber (λ r. SawBelow h a left q r × (r ≢ me)) c.match-position_before.seen = elim c.match-position_before.branch [
       | in-Some w ↦
           let b = before_less h q v c.position_before.result c.position_before.ensures w.in-Some.before w.in-Some.is in
           let l = positions_below h _ q are.makers_long v in
-          let long = are.readers_long in
           let two = w.index-in-Some.result.now in
           subst (IsLeastNumber (λ r. SawBelow h a left q r × (r ≢ me))) (sym w.seen-is)
           (saw_below h wf a left q w.in-Some.before v.0 v.1 (w.in-Some.ensures v.0 v.1) two me w.other-seen.result w.other-seen.ensures.own w.other-seen.ensures.another

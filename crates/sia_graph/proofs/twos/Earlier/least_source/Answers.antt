@@ -45,7 +45,6 @@ index-requires c =
     let there = subst (λ (xs : List ℕ). Contains xs q) c.at-position-items.ensures (Contains-get_or row c.loop-position-2.position-index 0 c.loop-position-2-test.true) in
     let saw = (saw_is h a c.requires.is.accesses c.args.me u.0 u.1 q).0 there in
     let l = positions_below h _ q c.requires.earlier.1.makers_long (saw_position h a c.requires.is.accesses c.args.me u.0 u.1 q saw) in
-    let ok = c.args.self.now.makers.ok.0 in
     omega arith
 
 pub loop-position-2-preserved : goal.loop-position-2-preserved
@@ -57,9 +56,6 @@ loop-position-2-preserved c left are =
     let saw = (saw_is e.index.now e.accesses.now c.requires.is.accesses c.args.me u.0 u.1 at).0 there in
     let below = positions_below e.index.now _ at are.makers_long (saw_position e.index.now e.accesses.now c.requires.is.accesses c.args.me u.0 u.1 at saw) in
     let w = c.loop-position-2.invariant left are in
-    let f = c.min-least-in-loop-position-2.ensures in
-    let g = w.3 in
-    let b = w.1 in
     let new = c.other.result in
     let q = get_or c.at-position-items.result.now c.loop-position-2.position-index 0 in
     let made =
