@@ -176,9 +176,6 @@ module _ (floor : ℕ) where
             | inr (inr b) ↦ inr (p.whole t (inr b))
           ]
 
-          moved_once : IsOnce (front ++ (ys ++ r ∷ zs))
-          moved_once = grind (arith, apart, once_join, from_moved)
-
           within : (x y : ℕ) → Step x y → IsAhead x y (r ∷ rest) → IsAhead x y (ys ++ r ∷ zs)
           within x y step (inl w) = grind (arith, r_stays, goes_along, ahead_right, ahead_left, ahead_across)
           within x y step (inr a) = grind (arith, r_stays, goes_along, ahead_right, ahead_left, ahead_across)
@@ -186,7 +183,7 @@ module _ (floor : ℕ) where
           moved_order : IsOrderBy Node Step (front ++ (ys ++ r ∷ zs))
           moved_order = (
             record {
-              once = once_pairs (front ++ (ys ++ r ∷ zs)) moved_once;
+              once = once_pairs (front ++ (ys ++ r ∷ zs)) (grind (arith, apart, once_join, from_moved));
               each = λ t. (
                 λ c. in_node t (elim (in_cases t front (ys ++ r ∷ zs) (contains_in (front ++ (ys ++ r ∷ zs)) t c)) [
                   | inl i ↦ in_left t front (r ∷ rest) i

@@ -12,10 +12,6 @@ use Rattle.sia_graph.proofs.Shared.Facts.{Lifetime, lifetime_of, commits_lt}
 use Rattle.sia_graph.proofs.Shared.NoStuckSet.{rw_unseen}
 
 module _ (h : List Event) (wf : IsWellFormed h) where
-  -- no transaction commits before itself
-  not_before_itself : (t u : ℕ) → CommitsBefore h t u → t ≢ u
-  not_before_itself t u before same = grind (arith, commits_lt, one_commit)
-
   -- what comes after a version that t saw, and isn't t's, has an rw edge from t
   seen_edge : (t u : ℕ) → IsCommitted h t → u ≢ t → IsAfterSeen h t u → HasRwEdge h t u
   seen_edge t u committed other seen = grind arith
@@ -63,7 +59,7 @@ firsts_hold h wf = record {
     λ p. (
       p.0,
       λ t u f.
-          let edge = seen_edge h wf t u (f.1.1, f.1.3) (not_before_itself h wf u t f.1) f.0 in
+          let edge = seen_edge h wf t u (f.1.1, f.1.3) (grind (arith, commits_lt, one_commit)) f.0 in
           p.1 t u (first_by_commits h wf p.0 t u (edge, f.1, f.2)),
     ),
     λ p. (p.0, λ t u f. let g = to t u f in p.1 t u (edge_seen h wf t u g.0, g.1, g.2)),

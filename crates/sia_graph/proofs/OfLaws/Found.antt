@@ -62,9 +62,6 @@ taken_slice (f ∷ h) (suc i) zero e l at = at
 taken_slice (f ∷ h) (suc i) (suc j) e l at = taken_slice h i j e (omega arith) at
 
 module _ (h : List Event) where
-  wrote_at : (t k p : ℕ) → at_place h p ≡ Some (Write t k) → Writes h t k
-  wrote_at t k p q = grind arith
-
   writes_before : (t k i : ℕ) → Writes (take i h) t k → WroteBefore h t k (suc i)
   writes_before t k i w = let s = slice_taken h i w.0 (Write t k) w.1 in let l = s.0 in (suc w.0, omega arith, s.1)
 
@@ -111,7 +108,7 @@ module _ (h : List Event) where
         inr (j, omega arith, at ∙ ap Some (sym own.1), subst (λ x. Wrote h x k) (sym own.1) (suc own.0.0, own.0.1), λ n u a b c. absurd (omega arith))
     one_more j t f g at (inr other) last =
         subst (λ x. IsLastWriter h order (suc j) k x) (sym other.1)
-        (quiet j f (λ u c w. other.0 (subst (λ x. Writes h x k) (same_Some u t (sym c ∙ at)) (wrote_at u k w.0 w.1))) last)
+        (quiet j f (λ u c w. other.0 (subst (λ x. Writes h x k) (same_Some u t (sym c ∙ at)) (grind arith))) last)
 
     last_writer : (j : ℕ) → IsLastWriter h order j k (writer_before order k j)
     unfolding writer_before

@@ -103,14 +103,11 @@ module _ (g : Graph) (done : List Bool) (k : Taking) (pending : ℕ → ℕ) (at
       not_now : (s : ℕ) → ¬ WaitsAt g.sources cs k.passed.items node s
       not_now s w = let e = w.1 in let t = two in omega arith
 
-      to_old : (t s : ℕ) → t ≢ node → WaitsAt g.sources cs k.passed.items t s → WaitsAt g.sources k.counts.items k.passed.items t s
-      to_old = grind (arith, now_was, node_within, length-set, elsewhere)
-
       to_new : (t s : ℕ) → t ≢ node → WaitsAt g.sources k.counts.items k.passed.items t s → WaitsAt g.sources cs k.passed.items t s
       to_new = grind (arith, was_now, node_within, length-set, elsewhere)
 
       pub waited_before : (t s : ℕ) → WaitsAt g.sources cs k.passed.items t s → WaitsAt g.sources k.counts.items k.passed.items t s × (t ≢ node)
-      waited_before t s w = search (rules, arith, cases_eq, not_now, to_old)
+      waited_before t s w = search (rules, arith, cases_eq, not_now, now_was, node_within, length-set, elsewhere)
 
       abbrev rest : List ℕ
       rest = goes_on.1

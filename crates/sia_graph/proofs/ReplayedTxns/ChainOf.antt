@@ -59,9 +59,6 @@ chain_at t n p (e ∷ h) some is = by_test (cases_Bool (eqb (actor e) t)) (chain
               ∙ ap (λ (l : List Event). (p, w.1) ∷ events_from (p + 1) l t) (sym more),
         )
 
-one_right : (h : List Event) (found : ℕ → ℕ) (place : ℕ) (e : Event) (rest : List (ℕ × Event)) (r : Option Mismatch) → ((k : ℕ) → IsRight h found e k) → Tells h (after found e) rest r → Tells h found ((place, e) ∷ rest) r
-one_right h found place e rest r p q = grind arith
-
 -- where a transaction's replay stands: what is told from here on is told from the start
 pub record IsOnChain (h : List Event) (t : ℕ) (start : ℕ → ℕ) (versions : BTreeMap ℕ ℕ) (at : ℕ) : Type 0 where
   pub past : ℕ
@@ -108,7 +105,7 @@ module _ (h : List Event) (t : ℕ) (start : ℕ → ℕ) (versions : BTreeMap �
     told = λ others r tells.
         let rest = events_from (at + 1) (drop at h) t ++ others in
         let f : version_in now ≡ after (version_in versions) e = λ i k. is k i in
-        let here : Tells h (version_in versions) ((at, e) ∷ rest) r = one_right h (version_in versions) at e rest r right (subst (λ (g : ℕ → ℕ). Tells h g rest r) f tells) in
+        let here : Tells h (version_in versions) ((at, e) ∷ rest) r = grind arith in
         on.told others r (subst (λ (l : List (ℕ × Event)). Tells h (version_in versions) (l ++ others) r) (sym n.3) here);
   }
 

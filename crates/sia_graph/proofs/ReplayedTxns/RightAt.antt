@@ -19,9 +19,6 @@ use Rattle.sia_events.specs.declared.event.Event.TheVariants.{Range, Write}
 use Rattle.sia_graph.specs.Replaying.{Agrees, IsRight, version_in}
 use Rattle.sia_graph.proofs.Shared.Facts.{commits_lt}
 
-no_greater : (k q : ℕ) → is_gt (nat_cmp k q) ≡ false → k ≤ q
-no_greater k q e = grind (arith, cases_lt, le-ltb, ne_eqb)
-
 module _ (listed : List (ℕ × ℕ)) (up : IsStrictlyIncreasing (map (λ p. p.0) listed)) where
   pub keys_less : (i j : ℕ) (d : ℕ × ℕ) → i < j → j < length listed → (get_or listed i d).0 < (get_or listed j d).0
   keys_less i j d l b =
@@ -58,7 +55,7 @@ no_lesser k q l = grind (arith, cases_eq, le-ltb, eq-eqb, cases_lt, lt-ltb)
 -- the first entry of a range of a map
 pub range_first : (m : BTreeMap ℕ ℕ) (a b : ℕ) (r : List (ℕ × ℕ)) → IsRangeOf nat_cmp (Included a) (Included b) m r → (k v : ℕ) (t : List (ℕ × ℕ)) → r ≡ (k, v) ∷ t
     → (a ≤ k) × (k ≤ b) × (v ≡ version_in m k) × ((q : ℕ) → a ≤ q → q < k → version_in m q ≡ 0)
-range_first m a b r range k v t is = grind (arith, no_greater, unwrap_or, no_lesser)
+range_first m a b r range k v t is = grind (arith, unwrap_or, no_lesser, cases_lt, le-ltb, ne_eqb)
 
 -- and where a range has none
 pub range_none : (m : BTreeMap ℕ ℕ) (a b : ℕ) (r : List (ℕ × ℕ)) → IsRangeOf nat_cmp (Included a) (Included b) m r → r ≡ [] → (q : ℕ) → a ≤ q → q ≤ b → version_in m q ≡ 0

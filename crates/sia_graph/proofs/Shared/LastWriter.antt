@@ -18,12 +18,9 @@ last_from k d (e ∷ es) = last_from k (cond (is_write_of k e.1) (actor e.1) d) 
 abbrev first_or : ℕ → ℕ → List (ℕ × Event) → ℕ
 first_or k d es = unwrap_or (option_map (λ e. actor e.1) (find (λ e. is_write_of k e.1) es)) d
 
-first_cons : (k d : ℕ) (e : ℕ × Event) (es : List (ℕ × Event)) → first_or k d (e ∷ es) ≡ cond (is_write_of k e.1) (actor e.1) (first_or k d es)
-first_cons k d e es = grind (arith, unwrap_or, option_map, find)
-
 first_of_reverse : (k d : ℕ) (es others : List (ℕ × Event)) → first_or k d (reverse_aux es others) ≡ last_from k (first_or k d others) es
 first_of_reverse k d [] others = refl
-first_of_reverse k d (e ∷ es) others = first_of_reverse k d es (e ∷ others) ∙ ap (λ x. last_from k x es) (first_cons k d e others)
+first_of_reverse k d (e ∷ es) others = first_of_reverse k d es (e ∷ others) ∙ ap (λ x. last_from k x es) (grind (arith, unwrap_or, option_map, find))
 
 pub found_is_last : (events : List (ℕ × Event)) (i k : ℕ) → found_at events i k ≡ last_from k 0 (take i events)
 found_is_last events i k = first_of_reverse k 0 (take i events) []
@@ -39,9 +36,6 @@ events_from n h t = filter (λ e. actor e.1 == t) (enumerate_from n h)
 -- t's write of k stands in h
 abbrev pub Writes : List Event → ℕ → ℕ → Type 0
 Writes h t k = (i : ℕ) × (slice_get h i ≡ Some (Write t k))
-
-is_the_write : (t k : ℕ) (e : Event) → is_write_of k e ≡ true → actor e ≡ t → e ≡ Write t k
-is_the_write t k e p q = grind (arith, eqb-true, false≢true)
 
 not_the_write : (t k : ℕ) (e : Event) → is_write_of k e ≡ false → e ≢ Write t k
 not_the_write t k e p q = grind (arith, eqb-false)
@@ -62,7 +56,7 @@ after_write t k d x f e h p q r = grind arith
 
 by_tests : (k d t n : ℕ) (e : Event) (h : List Event) (es : List (ℕ × Event)) (b w : Bool) → actor e == t ≡ b → is_write_of k e ≡ w
     → ((x : ℕ) → IsLastOwn h t k x (last_from k x es)) → IsLastOwn (e ∷ h) t k d (last_from k d (cond b ((n, e) ∷ es) es))
-by_tests k d t n e h es true true p q rest = grind (arith, eqb-true, after_write, is_the_write, after_other, not_the_write, eqb-false)
+by_tests k d t n e h es true true p q rest = grind (arith, eqb-true, after_write, after_other, not_the_write, eqb-false, false≢true)
 by_tests k d t n e h es true false p q rest =
     subst (λ y. IsLastOwn (e ∷ h) t k d (last_from k (cond y (actor e) d) es)) (sym q)
     (after_other t k d (last_from k d es) e h (not_the_write t k e q) (rest d))

@@ -86,21 +86,13 @@ module _ (P : ℕ → Type 0) (few : (q : ℕ) → P q → q < 4294967295) where
     two_stay : two.least ≤ rank → (rank ≡ two.least) ⊎ (two.next ≤ rank) → IsTwo Q two
     two_stay p q = grind (arith, new_least, least_by, next_bound, there_if, no_less, low_next)
 
-    two_fields : (new : Two) (a b : ℕ) → (new.least ≡ a) × (new.next ≡ b) → IsTwo Q (record { least = a; next = b }) → IsTwo Q new
-    two_fields new a b p q = grind arith
-
     -- what `with` gives
     pub two_with : (new : Two)
         → (rank < two.least → (new.least ≡ rank) × (new.next ≡ two.least))
         → (two.least < rank → rank < two.next → (new.least ≡ two.least) × (new.next ≡ rank))
         → (two.least ≤ rank → (rank ≡ two.least) ⊎ (two.next ≤ rank) → new ≡ two)
         → IsTwo Q new
-    two_with new less between same = grind (arith, cases_order, two_stay, two_fields, two_less, cases_lt, two_between)
-
--- more numbers, of each of which two less ones are there already
-pub two_enough : (S R : ℕ → Type 0) (two : Two) → ((q : ℕ) → S q → R q)
-    → ((q : ℕ) → R q → S q ⊎ ((a : ℕ) × (b : ℕ) × S a × S b × (a ≢ b) × (a ≤ q) × (b ≤ q))) → IsTwo S two → IsTwo R two
-two_enough S R two p r s = grind (arith, cases_eq)
+    two_with new less between same = grind (arith, cases_order, two_stay, two_less, cases_lt, two_between)
 
 -- the two least of either
 module _ (P Q R : ℕ → Type 0) (few : (q : ℕ) → P q → q < 4294967295) (few_too : (q : ℕ) → Q q → q < 4294967295)
@@ -112,4 +104,4 @@ module _ (P Q R : ℕ → Type 0) (few : (q : ℕ) → P q → q < 4294967295) (
   one_with S below rank bound two new is has = grind (arith, two_with)
 
   pub two_merged : (a b mid new : Two) → IsWith a b.least mid → IsWith mid b.next new → IsTwo P a → IsTwo Q b → IsTwo R new
-  two_merged a b mid new one two p q = search (rules, arith, one_with, least_bound, two_enough, there_if, cases_eq, no_less)
+  two_merged a b mid new one two p q = search (rules, arith, one_with, least_bound, there_if, cases_eq, no_less)

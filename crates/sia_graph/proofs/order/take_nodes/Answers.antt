@@ -20,15 +20,11 @@ use Rattle.sia_graph.proofs.order.take_nodes.Goals as goal
 abbrev many : ℕ → List ℕ → ℕ
 many size txns = 2 * size + length txns
 
--- nothing is done in a list of false alone
-all_false : (n s : ℕ) → get_or (replicate n false) s false ≡ false
-all_false n s = grind (arith, cases_lt, get_or-replicate, get_or_past, replicate, length-replicate)
-
 pub loop-node-init : goal.loop-node-init
 loop-node-init c =
     let n = many c.args.size c.args.txns.now in
     let done = c.in_ok-done.ensures.items_if_clones_equal (λ y k. search rules) in
-    let none : (s : ℕ) → get_or c.in_ok-done.done.items s false ≡ false = λ s. ap (λ xs. get_or xs s false) done ∙ all_false n s in
+    let none : (s : ℕ) → get_or c.in_ok-done.done.items s false ≡ false = λ s. ap (λ xs. get_or xs s false) done ∙ grind (arith, cases_lt, get_or-replicate, get_or_past, replicate, length-replicate) in
     let long = ap (length {A = Bool}) done ∙ length-replicate n false in (
       as_taking c.args.graph.now c.in_ok-done.done.items c.in_ok-taking.taking (λ t. 1) (not_yet 0) n (λ t l. sym (ap (λ b. cond b 0 1) (le-ltb t 0 (omega arith))))
           (c.in_ok-taking.ensures.is c.in_ok-done.done.items long (λ s d. let e = sym d ∙ none s in cc)),

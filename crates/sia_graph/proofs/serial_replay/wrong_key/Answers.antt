@@ -1,4 +1,4 @@
-use Rattle.std.proofs.Common.{arith, ◌≡◌, ◌≢◌, inl, inr, ltb, leb, unwrap_or, ◌<◌, ◌≤◌, ℕ, List, Option, Some, refl, ap, sym, subst, ◌∙◌}
+use Rattle.std.proofs.Common.{arith, ◌≡◌, inl, inr, ltb, leb, unwrap_or, ◌<◌, ◌≤◌, ℕ, List, Option, Some, refl, ap, sym, subst, ◌∙◌}
 use Rattle.std.specs.Prelude.{◌↔◌, All, IsTrue, MatchOption}
 use Rattle.std.proofs.lemmas.Bool.{cases_lt, le-leb, le-ltb, lt-leb, lt-ltb}
 use Rattle.std.specs.Bool.{then_some}
@@ -57,9 +57,6 @@ write_told h found t key c d r is may = elim (cases_lt c d) [
   | inr more ↦ let on = le-leb d c more in let no = le-ltb c d more in rw (is, on) ((λ right. let yes = may.1 (right refl) in cc), (λ k l e. absurd (omega arith)), refl)
 ]
 
-present : (o : Option ℕ) (v : ℕ) → v ≡ unwrap_or o 0 → v ≢ 0 → o ≡ Some v
-present o v p q = grind arith
-
 pub returns-in-Some-Some : goal.returns-in-Some-Some
 returns-in-Some-Some c =
     let h = c.args.h.now in
@@ -69,7 +66,7 @@ returns-in-Some-Some c =
     let is = c.version_of-found.ensures in
     let some = c.if-found-eq0.false in
     let before =
-    follows_iff h c.len-events.ensures.well_formed key c.version_of-found.result txn _ _ some c.if-found-txn.false (c.requires.written key _ (present _ c.version_of-found.result is some))
+    follows_iff h c.len-events.ensures.well_formed key c.version_of-found.result txn _ _ some c.if-found-txn.false (c.requires.written key _ (grind arith))
     (c.requires.event.0, c.requires.event.1 ∙ ap Some c.in-Write.is)
     ((c.requires.commits c.version_of-found.result _).0 (sym c.in-Some-Some.ensures.value)) ((c.requires.commits txn _).0 (sym c.in-Some-Some.ensures'.value)) in
     subst (λ (e : Event). MatchOption c.then_some-in-Some-Some.result ((k : ℕ) → IsRight h found e k) (λ k. IsWrongAt h found e k (found k))) (sym c.in-Write.is)
