@@ -1,12 +1,10 @@
 pub mod CountsTold
 pub mod CycleExists
 pub mod ExplainedExists
-pub mod ExplainedLeft
 pub mod FindingsExist
 pub mod FormsLeft
 pub mod GsiHidden
 pub mod Levels
-pub mod LinesTold
 pub mod OneExplanation
 pub mod OneReport
 pub mod OutcomesTold
@@ -15,7 +13,6 @@ pub mod ReasonLines
 pub mod ReportExists
 pub mod ReportLines
 pub mod SnapshotsFit
-pub mod SnapshotsLeft
 pub mod TextLines
 pub mod TokenExists
 pub mod VerdictExists

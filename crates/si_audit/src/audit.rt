@@ -94,13 +94,25 @@ pub fn audit<R: Threads + Wait + Sync>(
     let workers = o.workers();
     let crew = InThreads { rt, workers };
     let (j, accesses) = judged(&crew, alloc, log, &ix, o.parts())?;
+    audit_of(alloc, &ix, j, &accesses)
+}
+
+/// The judgement, with all edges and pivots.
+fn audit_of(alloc: Global, ix: &Index, j: Judgement, accesses: &Accesses) -> Result<Audit, NoMemory>
+    requires judgement { IsJudgement ix.now j }
+    requires pass { IsTrue j.pass → IsTrue j.serializable × IsOrderVerdict j.verdict }
+    requires accesses { AreAccesses ix.now (λ _. ⊤) accesses.now }
+    ensures exact { IfOk result (λ a. IsAccount ix.now (account_of a)) }
+    ensures pass { IfOk result (λ a. IsTrue a.pass → IsTrue a.serializable × IsOrderVerdict a.verdict) }
+{
+    let edges = edges_at(alloc, ix, accesses, None)?;
     let findings = Findings {
         bad_reads: j.bad_reads,
         bad_writes: j.bad_writes,
         unexplained: j.unexplained,
-        edges: edges_at(alloc, &ix, &accesses, None)?,
+        edges,
     };
-    let pivots = pivots(alloc, &findings, &ix)?;
+    let pivots = pivots(alloc, &findings, ix)?;
     Ok(Audit {
         events: j.counts.events,
         committed: j.counts.committed,

@@ -15,7 +15,7 @@ use Rattle.sia_parts.specs.declared.finding.BadWrite.{BadWrite}
 use Rattle.sia_parts.proofs.Auditing.Members.{contains_first, contains_later}
 use Rattle.sia_graph.proofs.Shared.Deciding.{not_decided}
 use Rattle.si_audit.specs.Counts.{HasName, IsLost, SoManyHave, TellsCounts, all_counts, count_words, counts_line}
-use Rattle.si_audit.proofs.OfLaws.ReasonLines.{reason_goes}
+use Rattle.si_audit.proofs.OfLaws.ReasonLines.{keep, reason_goes}
 use Rattle.si_audit.proofs.OfLaws.ReportLines.{AreUnbroken, IsUnbroken, all_both, glued, numeral_unbroken}
 use Rattle.si_audit.proofs.OfLaws.TextLines.{Leaves, leaves_nothing, unbroken_both}
 use Rattle.si_audit.proofs.OfReasons.Counting.{same_anomaly}
@@ -77,10 +77,10 @@ commas_unbroken : (words : List (List ℕ)) → AreUnbroken words → IsUnbroken
 commas_unbroken [] p = refl
 commas_unbroken (w ∷ words) p = unbroken_both (codes ", " ++ w) _ (unbroken_both (codes ", ") w refl p.0) (commas_unbroken words p.1)
 
-module _ (h : List Event) (keep : List ℕ → Bool) (goes : (w : List ℕ) → keep (codes "  " ++ w) ≡ false) where
+module _ (h : List Event) where
   line_goes : (words : List (List ℕ)) → AreUnbroken words → Leaves keep (counts_line words) []
   line_goes [] p = leaves_nothing keep
-  line_goes (w ∷ words) p = reason_goes h keep goes (w ++ flat_map (λ v. codes ", " ++ v) words) (unbroken_both w _ p.0 (commas_unbroken words p.1))
+  line_goes (w ∷ words) p = reason_goes h (w ++ flat_map (λ v. codes ", " ++ v) words) (unbroken_both w _ p.0 (commas_unbroken words p.1))
 
   pub counts_go : (reads : List BadRead) (writes : List BadWrite) (bytes : List ℕ) → TellsCounts h reads writes bytes → Leaves keep bytes []
   counts_go reads writes bytes told =

@@ -1,5 +1,5 @@
 -- A text has one report.
-use Rattle.std.proofs.Common.{◌≡◌, inl, inr, ℕ, suc, List, [], ◌∷◌, ◌++◌, map, refl, ap, sym, subst, ◌∙◌, arith}
+use Rattle.std.proofs.Common.{◌≡◌, ◌⊎◌, inl, inr, ℕ, suc, List, [], ◌∷◌, ◌++◌, map, refl, ap, sym, subst, ◌∙◌, arith}
 use Rattle.std.specs.Prelude.{All, ⊤}
 use Rattle.std.specs.Bool.{one_answer}
 use Rattle.sia_events.specs.Limits.{Limits, greatest, AreWithin}
@@ -7,7 +7,8 @@ use Rattle.sia_events.specs.declared.event.Event.{Event}
 use Rattle.sia_events.specs.declared.fault.TextFault.{TextFault}
 use Rattle.sia_events.specs.declared.fault.TextFault.TheVariants.{NoMemory, TextTooLong, Refused}
 use Rattle.sia_events.specs.Lists.{ListsAscending}
-use Rattle.sia_events.specs.Refusals.{IsWellFormed}
+use Rattle.sia_events.specs.Refusals.{IsAccepted, IsRefusal, IsWellFormed}
+use Rattle.sia_events.specs.Text.{StandsFor}
 use Rattle.sia_events.specs.Transactions.{IsCommitted, IsAborted, IsOpen}
 use Rattle.sia_events.specs.Isolation.{IsBadRead, IsBadWrite, IsUnexplained}
 use Rattle.sia_events.specs.DangerousStructures.{IsPivot, IsVulnerable, IsFirst, PassesSsi}
@@ -26,7 +27,7 @@ use Rattle.si_audit.specs.Account.{Account, IsAccount}
 use Rattle.si_audit.specs.declared.options.Form.TheVariants.{Full, Brief, Explained}
 use Rattle.si_audit.specs.Lines.{refusal_line}
 use Rattle.si_audit.specs.RefusedPlaces.{TellsToken, place_line}
-use Rattle.si_audit.specs.Report.{OneReport, HasSameReport, TellsAccount, TellsRefusal}
+use Rattle.si_audit.specs.Report.{HasSameReport, IsReport, OneReport, TellsAccount, TellsRefusal}
 use Rattle.si_audit.proofs.OfLaws.OneExplanation.{one_explained}
 use Rattle.si_audit.proofs.Shared.Told.{IsOne}
 
@@ -102,16 +103,23 @@ one_account_told Full h wf a bytes others x y = x ∙ sym y
 one_account_told Brief h wf a bytes others x y = x ∙ sym y
 one_account_told Explained h wf a bytes others x y = one_explained h wf a bytes others x y
 
-pub one_report_of : (limits : Limits) → AreWithin limits greatest → (form : Form) (text : List ℕ) → OneReport limits form text
-one_report_of limits within form text bytes others (inl p) (inl q) =
-    one_refusal_told form text q.0 bytes others (subst (λ fault. TellsRefusal form text fault bytes) (one_refusal limits text p.0 q.0 p.1 q.1) p.2) q.2
-one_report_of limits within form text bytes others (inl p) (inr q) = absurd (q.2 p.0 p.1)
-one_report_of limits within form text bytes others (inr p) (inl q) = absurd (p.2 q.0 q.1)
-one_report_of limits within form text bytes others (inr p) (inr q) =
+-- two reports of a text, of whatever forms, tell of one fault, or of one account of one history
+pub told_of_one : (limits : Limits) (form other : Form) (text bytes others : List ℕ) → IsReport limits form text bytes → IsReport limits other text others
+    → ((fault : TextFault) × IsRefusal limits text fault × TellsRefusal form text fault bytes × TellsRefusal other text fault others)
+    ⊎ ((h : List Event) × (a : Account) × IsAccepted limits text × StandsFor text h × TellsAccount form h a bytes × TellsAccount other h a others)
+told_of_one limits form other text bytes others (inl p) (inl q) = inl (q.0, q.1, subst (λ fault. TellsRefusal form text fault bytes) (one_refusal limits text p.0 q.0 p.1 q.1) p.2, q.2)
+told_of_one limits form other text bytes others (inl p) (inr q) = absurd (q.2 p.0 p.1)
+told_of_one limits form other text bytes others (inr p) (inl q) = absurd (p.2 q.0 q.1)
+told_of_one limits form other text bytes others (inr p) (inr q) =
     let same = spellings_injective p.0 q.0 (sym p.3 ∙ q.3) in
     let account = one_account p.0 p.1 q.1 p.4 (subst (λ h. IsAccount h q.1) (sym same) q.4) in
-    one_account_told form q.0 (accepted_well_formed limits text q.0 within q.2 q.3) q.1 bytes others
-    (subst (λ a. TellsAccount form q.0 a bytes) account (subst (λ h. TellsAccount form h p.1 bytes) same p.5)) q.5
+    inr (q.0, q.1, q.2, q.3, subst (λ a. TellsAccount form q.0 a bytes) account (subst (λ h. TellsAccount form h p.1 bytes) same p.5), q.5)
+
+pub one_report_of : (limits : Limits) → AreWithin limits greatest → (form : Form) (text : List ℕ) → OneReport limits form text
+one_report_of limits within form text bytes others x y = elim (told_of_one limits form form text bytes others x y) [
+  | inl w ↦ one_refusal_told form text w.0 bytes others w.2 w.3
+  | inr w ↦ one_account_told form w.0 (accepted_well_formed limits text w.0 within w.2 w.3) w.1 bytes others w.4 w.5
+]
 
 pub same_report : (form : Form) (text : List ℕ) → HasSameReport form text
 same_report form text limits others bytes within accepted (inl p) = absurd (accepted p.0 p.1)

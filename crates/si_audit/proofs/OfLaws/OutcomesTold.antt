@@ -1,6 +1,7 @@
 -- How the run of a text ends, read off the lines of its report.
-use Rattle.std.proofs.Common.{◌≡◌, ◌⊎◌, ◌↔◌, ◌&&◌, inl, inr, ℕ, Bool, true, false, List, [], ◌∷◌, ◌++◌, codes, refl, ap, sym, subst, ◌∙◌}
+use Rattle.std.proofs.Common.{◌≡◌, ◌⊎◌, ◌↔◌, ◌&&◌, inl, inr, ℕ, Bool, true, false, List, [], ◌∷◌, ◌++◌, codes, refl, ap, sym, subst, ◌∙◌, ◌≢◌, cond, filter, get_or, append-nil, arith, append_assoc, Contains}
 use Rattle.std.specs.Prelude.{⊤}
+use Rattle.std.specs.List.{concat}
 use Rattle.std.proofs.lemmas.Bool.{and_from, and_parts, false_from_ne_true}
 use Rattle.sia_events.specs.Limits.{Limits}
 use Rattle.sia_events.specs.declared.event.Event.{Event}
@@ -21,11 +22,144 @@ use Rattle.si_audit.specs.declared.options.Form.TheVariants.{Full, Brief, Explai
 use Rattle.si_audit.specs.declared.options.Level.{Level}
 use Rattle.si_audit.specs.declared.options.Level.TheVariants.{Serializable, Ssi, Si}
 use Rattle.si_audit.specs.declared.engine.Outcome.TheVariants.{Clean, Faulty}
-use Rattle.si_audit.specs.Laws.{LinesLaw, TellsOutcomes, begins}
-use Rattle.si_audit.specs.Lines.{is_empty, refusal_line}
+use Rattle.si_audit.specs.Laws.{LinesLaw, TellsOutcomes, begins, lines_of}
+use Rattle.si_audit.specs.Lines.{is_empty, refusal_line, isolation_line, report_text, serializable_line, ssi_line}
 use Rattle.si_audit.specs.Outcomes.{IsOutcome, Meets}
 use Rattle.si_audit.specs.Report.{TellsAccount, TellsRefusal}
-use Rattle.si_audit.proofs.OfLaws.LinesTold.{AreTold, told_of_account, told_of_refusal, via}
+use Rattle.sia_parts.proofs.Auditing.Members.{contains_first, contains_later, contains_none, first_or_later}
+use Rattle.si_audit.proofs.OfLaws.ReportLines.{isolation_is, long_is, refusal_is, report_leaves, serializable_is, ssi_is, stays}
+use Rattle.si_audit.proofs.OfLaws.TextLines.{IsLine, Leaves, lines_again, what_is_left}
+use Rattle.si_audit.proofs.OfLaws.FormsLeft.{account_leaves, refused_leaves, told_in, verdict_begins}
+
+-- what a filter keeps is in what it leaves
+module _ (keep : List ℕ → Bool) (l : List ℕ) (stay : keep l ≡ true) where
+  kept_there : (ls : List (List ℕ)) → Contains ls l → Contains (filter keep ls) l
+  kept_there [] c = absurd (contains_none l c)
+  kept_there (m ∷ ls) c = by_case (keep m) refl (first_or_later m l ls c) (kept_there ls)
+    where
+      by_case : (b : Bool) → keep m ≡ b → (m ≡ l) ⊎ Contains ls l → (Contains ls l → Contains (filter keep ls) l) → Contains (cond b (m ∷ filter keep ls) (filter keep ls)) l
+      by_case true e (inl same) rest = subst (Contains (m ∷ filter keep ls)) same (contains_first m (filter keep ls))
+      by_case true e (inr later) rest = contains_later m l (filter keep ls) (rest later)
+      by_case false e (inl same) rest = let no : true ≡ false = sym stay ∙ ap keep (sym same) ∙ e in absurd cc
+      by_case false e (inr later) rest = rest later
+
+  there_kept : (ls : List (List ℕ)) → Contains (filter keep ls) l → Contains ls l
+  there_kept [] c = absurd (contains_none l c)
+  there_kept (m ∷ ls) c = by_case (keep m) c (λ d. contains_later m l ls (there_kept ls d))
+    where
+      by_case : (b : Bool) → Contains (cond b (m ∷ filter keep ls) (filter keep ls)) l → (Contains (filter keep ls) l → Contains (m ∷ ls) l) → Contains (m ∷ ls) l
+      by_case true d rest = elim (first_or_later m l (filter keep ls) d) [ inl same ↦ subst (Contains (m ∷ ls)) same (contains_first m ls) | inr later ↦ rest later ]
+      by_case false d rest = rest d
+
+  same_line : (bytes left : List ℕ) → Leaves keep bytes left → Contains (lines_of bytes) l ↔ Contains (lines_of left) l
+  same_line bytes left leaves =
+      let lines = (what_is_left keep bytes left leaves).1 in (
+        λ c. subst (λ (ls : List (List ℕ)). Contains ls l) (sym lines) (kept_there (lines_of bytes) c),
+        λ c. there_kept (lines_of bytes) (subst (λ (ls : List (List ℕ)). Contains ls l) lines c),
+      )
+
+one_line : (l m : List ℕ) → IsLine l → Contains (lines_of l) m → l ≡ m
+one_line l m is c =
+    let lines : lines_of l ≡ l ∷ [] = ap lines_of (sym (append-nil l)) ∙ lines_again (l ∷ []) (is, tt) in
+    elim (first_or_later l m [] (subst (λ (ls : List (List ℕ)). Contains ls m) lines c)) [ inl same ↦ same | inr later ↦ absurd (contains_none m later) ]
+
+has_itself : (l : List ℕ) → IsLine l → Contains (lines_of l) l
+has_itself l is = subst (λ (ls : List (List ℕ)). Contains ls l) (sym (ap lines_of (sym (append-nil l)) ∙ lines_again (l ∷ []) (is, tt))) (contains_first l [])
+
+-- lines that tell a bit
+module _ (line_of : Bool → List ℕ) (are : (b : Bool) → IsLine (line_of b)) (place : ℕ) (apart : get_or (line_of true) place 0 ≢ get_or (line_of false) place 0) where
+  told_by : (b c : Bool) → line_of b ≡ line_of c → b ≡ c
+  told_by true true e = refl
+  told_by true false e = absurd (apart (ap (λ (l : List ℕ). get_or l place 0) e))
+  told_by false true e = absurd (apart (ap (λ (l : List ℕ). get_or l place 0) (sym e)))
+  told_by false false e = refl
+
+  line_told : (keep : List ℕ → Bool) → ((b : Bool) → keep (line_of b) ≡ true) → (bytes : List ℕ) (is : Bool) → Leaves keep bytes (line_of is) → (b : Bool) → Contains (lines_of bytes) (line_of b) ↔ (is ≡ b)
+  line_told keep stay bytes is leaves b =
+      let same = same_line keep (line_of b) (stay b) bytes (line_of is) leaves in (
+        λ c. told_by is b (one_line (line_of is) (line_of b) (are is) (same.0 c)),
+        λ e. same.1 (subst (λ x. Contains (lines_of (line_of is)) (line_of x)) e (has_itself (line_of is) (are is))),
+      )
+
+-- each of the three lines stands in the bytes exactly where its bit has this
+record AreTold (bytes : List ℕ) (Kept Pass Serial : Bool → Type 0) : Type 0 where
+  isolation : (b : Bool) → Contains (lines_of bytes) (isolation_line b) ↔ Kept b
+  ssi : (b : Bool) → Contains (lines_of bytes) (ssi_line b) ↔ Pass b
+  serializable : (b : Bool) → Contains (lines_of bytes) (serializable_line b) ↔ Serial b
+
+via : {A B C : Type 0} → A ↔ B → B ↔ C → A ↔ C
+via p q = (λ x. q.0 (p.0 x), λ x. p.1 (q.1 x))
+
+-- where a filter that keeps them all leaves the bytes, and where it leaves something else
+told_as : (keep : List ℕ → Bool) → ((b : Bool) → keep (isolation_line b) ≡ true) → ((b : Bool) → keep (ssi_line b) ≡ true) → ((b : Bool) → keep (serializable_line b) ≡ true)
+    → (bytes left : List ℕ) (Kept Pass Serial : Bool → Type 0) → Leaves keep bytes left → AreTold left Kept Pass Serial → AreTold bytes Kept Pass Serial
+told_as keep i s z bytes left Kept Pass Serial leaves told = record {
+  isolation = λ b. via (same_line keep (isolation_line b) (i b) bytes left leaves) (told.isolation b);
+  ssi = λ b. via (same_line keep (ssi_line b) (s b) bytes left leaves) (told.ssi b);
+  serializable = λ b. via (same_line keep (serializable_line b) (z b) bytes left leaves) (told.serializable b);
+}
+
+-- of a brief report the lines of the three bits
+abbrev bits : List (List ℕ)
+bits = codes "isolation " ∷ codes "ssi " ∷ codes "serializable " ∷ []
+
+three_left : (i s z : List ℕ) → ((((((((i ++ []) ++ []) ++ []) ++ []) ++ []) ++ s) ++ z) ++ []) ≡ i ++ (s ++ (z ++ []))
+three_left i s z = simp (append_assoc, append-nil)
+
+module _ (kept pass serial : Bool) where
+  abbrev three : List (List ℕ)
+  three = isolation_line kept ∷ ssi_line pass ∷ serializable_line serial ∷ []
+
+  one_left : (keep : List ℕ → Bool) (l : List ℕ) → concat (filter keep three) ≡ l ++ [] → Leaves keep (concat three) l
+  one_left keep l is = record { lines = three; are = (isolation_is kept, (ssi_is pass, (serializable_is serial, tt))); whole = refl; rest = sym (is ∙ append-nil l) }
+
+  three_told : AreTold (concat three) (λ b. kept ≡ b) (λ b. pass ≡ b) (λ b. serial ≡ b)
+  three_told = record {
+    isolation = line_told isolation_line isolation_is 10 (λ e. omega arith) (begins (codes "isolation " ∷ [])) (λ b. refl) (concat three) kept (one_left (begins (codes "isolation " ∷ [])) (isolation_line kept) refl);
+    ssi = line_told ssi_line ssi_is 4 (λ e. omega arith) (begins (codes "ssi " ∷ [])) (λ b. refl) (concat three) pass (one_left (begins (codes "ssi " ∷ [])) (ssi_line pass) refl);
+    serializable = line_told serializable_line serializable_is 13 (λ e. omega arith) (begins (codes "serializable " ∷ [])) (λ b. refl) (concat three) serial (one_left (begins (codes "serializable " ∷ [])) (serializable_line serial) refl);
+  }
+
+abbrev IsToldOf : Account → List ℕ → Type 0
+IsToldOf a bytes = AreTold bytes (λ b. (is_empty a.bad_reads && is_empty a.bad_writes) ≡ b) (λ b. a.pass ≡ b) (λ b. a.serializable ≡ b)
+
+brief_told : (a : Account) → IsToldOf a (report_text Brief a)
+brief_told a =
+    let left = report_leaves (begins bits) false true false false false false false true true false (record {
+      events = λ n c x o. refl;
+      isolation = λ b. refl;
+      bad_reads = λ x. refl;
+      bad_writes = λ x. refl;
+      unexplained = λ x. refl;
+      edges = λ x. refl;
+      pivots = λ x. refl;
+      ssi = λ b. refl;
+      serializable = λ b. refl;
+      verdict = verdict_begins (λ l. begins bits l ≡ false) (λ w. refl) (λ w. refl);
+    }) Brief a in
+    told_as (begins bits) (λ b. refl) (λ b. refl) (λ b. refl) _ _ _ _ _ (subst (Leaves (begins bits) (report_text Brief a)) (three_left (isolation_line (is_empty a.bad_reads && is_empty a.bad_writes)) (ssi_line a.pass) (serializable_line a.serializable)) left) (three_told _ a.pass a.serializable)
+
+-- a refusal line is none of them
+abbrev NoneTold : List ℕ → Type 0
+NoneTold bytes = AreTold bytes (λ b. ⊥) (λ b. ⊥) (λ b. ⊥)
+
+none_told : (l : List ℕ) → IsLine l → get_or l 0 0 ≡ 114 → NoneTold l
+none_told l is r = record {
+  isolation = λ b. (λ c. let e = ap (λ (x : List ℕ). get_or x 0 0) (one_line l (isolation_line b) is c) in omega arith, λ no. absurd no);
+  ssi = λ b. (λ c. let e = ap (λ (x : List ℕ). get_or x 0 0) (one_line l (ssi_line b) is c) in omega arith, λ no. absurd no);
+  serializable = λ b. (λ c. let e = ap (λ (x : List ℕ). get_or x 0 0) (one_line l (serializable_line b) is c) in omega arith, λ no. absurd no);
+}
+
+refusal_told : (fault : TextFault) (limits : Limits) (text : List ℕ) → IsRefusal limits text fault → NoneTold (refusal_line fault)
+refusal_told NoMemory limits text refusal = absurd refusal
+refusal_told TextTooLong limits text refusal = none_told _ long_is refl
+refusal_told (RefusedToken token r) limits text refusal = none_told _ (refusal_is token r) refl
+
+-- what a form leaves of its report tells as much as the report
+told_of : (form : Form) (bytes left : List ℕ) (Kept Pass Serial : Bool → Type 0) → Leaves (stays (told_in form)) bytes left → AreTold left Kept Pass Serial → AreTold bytes Kept Pass Serial
+told_of Full = told_as (stays (told_in Full)) (λ b. refl) (λ b. refl) (λ b. refl)
+told_of Brief = told_as (stays (told_in Brief)) (λ b. refl) (λ b. refl) (λ b. refl)
+told_of Explained = told_as (stays (told_in Explained)) (λ b. refl) (λ b. refl) (λ b. refl)
 
 turned : {A B : Type 0} → A ↔ B → B ↔ A
 turned p = (p.1, p.0)
@@ -71,8 +205,7 @@ module _ (limits : Limits) (text : List ℕ) (h : List Event) (accepted : IsAcce
   faulty_where : (level : Level) → IsOutcome limits level text Faulty ↔ (¬ Meets level h)
   faulty_where level = (λ (g, a, s, m). subst (λ f. ¬ Meets level f) (spellings_injective g h (sym s ∙ stands)) m, λ m. (h, accepted, stands, m))
 
-  told_accepted : (a : Account) (bytes : List ℕ) → IsAccount h a → AreTold bytes (λ b. (is_empty a.bad_reads && is_empty a.bad_writes) ≡ b) (λ b. a.pass ≡ b) (λ b. a.serializable ≡ b)
-      → begins (codes "refused: " ∷ []) bytes ≡ false → TellsOutcomes limits text bytes
+  told_accepted : (a : Account) (bytes : List ℕ) → IsAccount h a → IsToldOf a bytes → begins (codes "refused: " ∷ []) bytes ≡ false → TellsOutcomes limits text bytes
   told_accepted a bytes is told other =
       let kept = kept_told h a.bad_reads a.bad_writes is.bad_reads is.bad_writes in record {
         kept = via (clean_where Si) (via (turned kept) (turned (told.isolation true)));
@@ -91,7 +224,7 @@ module _ (limits : Limits) (text : List ℕ) (h : List Event) (accepted : IsAcce
       }
 
 module _ (limits : Limits) (text : List ℕ) (fault : TextFault) (refusal : IsRefusal limits text fault) where
-  told_refused : (bytes : List ℕ) → AreTold bytes (λ b. ⊥) (λ b. ⊥) (λ b. ⊥) → begins (codes "refused: " ∷ []) bytes ≡ true → TellsOutcomes limits text bytes
+  told_refused : (bytes : List ℕ) → NoneTold bytes → begins (codes "refused: " ∷ []) bytes ≡ true → TellsOutcomes limits text bytes
   told_refused bytes told same = record {
     kept = (λ x. absurd (x.1 fault refusal), λ l. absurd ((told.isolation true).0 l));
     broken = (λ x. absurd (x.1 fault refusal), λ l. absurd ((told.isolation false).0 l));
@@ -119,5 +252,5 @@ events_line_first Brief h a bytes is = ap (begins (codes "refused: " ∷ [])) is
 events_line_first Explained h a bytes is = ap (begins (codes "refused: " ∷ [])) is.14
 
 pub lines_tell : (limits : Limits) (form : Form) (text : List ℕ) → LinesLaw limits form text
-lines_tell limits form text bytes (inl p) = told_refused limits text p.0 p.1 bytes (told_of_refusal text bytes form limits p.0 p.1 p.2) (refused_line_first limits form text bytes p.0 p.1 p.2)
-lines_tell limits form text bytes (inr p) = told_accepted limits text p.0 p.2 p.3 p.1 bytes p.4 (told_of_account text bytes form p.0 p.1 p.5) (events_line_first form p.0 p.1 bytes p.5)
+lines_tell limits form text bytes (inl p) = told_refused limits text p.0 p.1 bytes (told_of form bytes _ _ _ _ (refused_leaves form text p.0 bytes p.2) (refusal_told p.0 limits text p.1)) (refused_line_first limits form text bytes p.0 p.1 p.2)
+lines_tell limits form text bytes (inr p) = told_accepted limits text p.0 p.2 p.3 p.1 bytes p.4 (told_of form bytes _ _ _ _ (account_leaves form p.0 p.1 bytes p.5) (brief_told p.1)) (events_line_first form p.0 p.1 bytes p.5)

@@ -56,69 +56,42 @@ is_none [] = inl refl
 is_none (x ∷ xs) = inr (λ e. cc)
 
 module _ (c : ℕ) (cs : List ℕ) where
-  -- behind a separator all stands as it did
-  past_separator : (i : ℕ) → is_separator c ≡ true → Stands cs i → Stands (c ∷ cs) i
-  past_separator i sep s = record {
+  -- what stands behind a byte, where the byte ends no token that stands there
+  behind : (i j : ℕ) (s : Stands cs j) → (s.front ≢ []) ⊎ (is_separator c ≡ true) → length (with_byte c s.front (tokens s.front)) ≡ i → Stands (c ∷ cs) i
+  behind i j s apart number = record {
     front = c ∷ s.front;
     token = s.token;
     rest = s.rest;
     whole = ap (λ (xs : List ℕ). c ∷ xs) s.whole;
     some = s.some;
     unbroken = s.unbroken;
-    front_ends = front_more c s.front s.front_ends (inr sep);
+    front_ends = front_more c s.front s.front_ends apart;
     rest_begins = s.rest_begins;
-    number_is = ap length (skipped c s.front (tokens s.front) sep) ∙ s.number_is;
+    number_is = number;
   }
 
-  -- a token of one byte, and one that goes on
-  alone : is_separator c ≡ false → goes_on cs ≡ false → Stands (c ∷ cs) 0
-  alone plain stops = record {
+  -- a token that begins with the byte
+  first : (token rest : List ℕ) → is_separator c ≡ false → cs ≡ token ++ rest → All (λ d. is_separator d ≡ false) token → goes_on rest ≡ false → Stands (c ∷ cs) 0
+  first token rest plain whole unbroken stops = record {
     front = [];
-    token = c ∷ [];
-    rest = cs;
-    whole = refl;
+    token = c ∷ token;
+    rest = rest;
+    whole = ap (λ (xs : List ℕ). c ∷ xs) whole;
     some = λ e. cc;
-    unbroken = All-cons (λ d. is_separator d ≡ false) c [] plain (All-nil (λ d. is_separator d ≡ false));
+    unbroken = All-cons (λ d. is_separator d ≡ false) c token plain unbroken;
     front_ends = inl refl;
     rest_begins = stops;
     number_is = refl;
   }
 
-  longer : (i : ℕ) → is_separator c ≡ false → (s : Stands cs i) → s.front ≡ [] → Stands (c ∷ cs) i
-  longer i plain s none = record {
-    front = [];
-    token = c ∷ s.token;
-    rest = s.rest;
-    whole = ap (λ (xs : List ℕ). c ∷ xs) (s.whole ∙ ap (λ (xs : List ℕ). xs ++ (s.token ++ s.rest)) none);
-    some = λ e. cc;
-    unbroken = All-cons (λ d. is_separator d ≡ false) c s.token plain s.unbroken;
-    front_ends = inl refl;
-    rest_begins = s.rest_begins;
-    number_is = ap (λ (xs : List ℕ). length (tokens xs)) (sym none) ∙ s.number_is;
-  }
-
-  -- a later token, where the first one goes on, or ends with the first byte
-  later : (i j : ℕ) → is_separator c ≡ false → (s : Stands cs j) → s.front ≢ [] → length (with_byte c s.front (tokens s.front)) ≡ i → Stands (c ∷ cs) i
-  later i j plain s some number = record {
-    front = c ∷ s.front;
-    token = s.token;
-    rest = s.rest;
-    whole = ap (λ (xs : List ℕ). c ∷ xs) s.whole;
-    some = s.some;
-    unbroken = s.unbroken;
-    front_ends = front_more c s.front s.front_ends (inl some);
-    rest_begins = s.rest_begins;
-    number_is = number;
-  }
-
   first_goes_on : (i : ℕ) → is_separator c ≡ false → goes_on cs ≡ true → Stands cs i → Stands (c ∷ cs) i
   first_goes_on i plain on s = elim (is_none s.front) [
-    | inl none ↦ longer i plain s none
+    | inl none ↦ subst (Stands (c ∷ cs)) (ap (λ (xs : List ℕ). length (tokens xs)) (sym none) ∙ s.number_is) (first s.token s.rest plain (s.whole ∙ ap (λ (xs : List ℕ). xs ++ (s.token ++ s.rest)) none) s.unbroken s.rest_begins)
     | inr some ↦
         let on_too = front_begins cs s.front (s.token ++ s.rest) s.whole some ∙ on in
         let (d, ds, is, begins) = going s.front on_too in
         let many : 0 < length (tokens s.front) = subst (λ (xs : List ℕ). 0 < length (tokens xs)) (sym is) (tokens_some d ds begins) in
-        later i i plain s some (ap length (goes_on_token c s.front (tokens s.front) plain on_too) ∙ onto_length c (tokens s.front) many ∙ s.number_is)
+        behind i i s (inl some) (ap length (goes_on_token c s.front (tokens s.front) plain on_too) ∙ onto_length c (tokens s.front) many ∙ s.number_is)
   ]
 
   first_ends : (j : ℕ) → is_separator c ≡ false → goes_on cs ≡ false → Stands cs j → Stands (c ∷ cs) (suc j)
@@ -126,7 +99,7 @@ module _ (c : ℕ) (cs : List ℕ) where
     | inl none ↦ let on = ap goes_on (s.whole ∙ ap (λ (xs : List ℕ). xs ++ (s.token ++ s.rest)) none) ∙ token_goes_on s.token s.rest s.some s.unbroken in let both : false ≡ true = sym stops ∙ on in absurd (cc)
     | inr some ↦
         let stops_too = front_begins cs s.front (s.token ++ s.rest) s.whole some ∙ stops in
-        later (suc j) j plain s some (ap length (ends_token c s.front (tokens s.front) plain stops_too) ∙ ap suc s.number_is)
+        behind (suc j) j s (inl some) (ap length (ends_token c s.front (tokens s.front) plain stops_too) ∙ ap suc s.number_is)
   ]
 
 stands_somewhere : (text : List ℕ) (i : ℕ) → i < length (tokens text) → Stands text i
@@ -134,13 +107,16 @@ stands_somewhere [] i l = absurd (omega arith)
 stands_somewhere (c ∷ cs) i l = by_bits (is_separator c) (goes_on cs) i refl refl l (stands_somewhere cs)
   where
     by_bits : (a b : Bool) (i : ℕ) → is_separator c ≡ a → goes_on cs ≡ b → i < length (tokens (c ∷ cs)) → ((j : ℕ) → j < length (tokens cs) → Stands cs j) → Stands (c ∷ cs) i
-    by_bits true b i p q l rest = let e = ap length (skipped c cs (tokens cs) p) in past_separator c cs i p (rest i (omega arith))
+    by_bits true b i p q l rest =
+        let e = ap length (skipped c cs (tokens cs) p) in
+        let s = rest i (omega arith) in
+        behind c cs i i s (inr p) (ap length (skipped c s.front (tokens s.front) p) ∙ s.number_is)
     by_bits false true i p q l rest =
         let (d, ds, is, begins) = going cs q in
         let many : 0 < length (tokens cs) = subst (λ (xs : List ℕ). 0 < length (tokens xs)) (sym is) (tokens_some d ds begins) in
         let e = ap length (goes_on_token c cs (tokens cs) p q) ∙ onto_length c (tokens cs) many in
         first_goes_on c cs i p q (rest i (omega arith))
-    by_bits false false zero p q l rest = alone c cs p q
+    by_bits false false zero p q l rest = first c cs [] cs p refl (All-nil (λ d. is_separator d ≡ false)) q
     by_bits false false (suc j) p q l rest = let e = ap length (ends_token c cs (tokens cs) p q) in first_ends c cs j p q (rest j (omega arith))
 
 pub token_exists : (text : List ℕ) (n : ℕ) → 0 < n → n < length (tokens text) + 1 → (line : ℕ) × (column : ℕ) × (token : List ℕ) × IsTokenAt text n line column token

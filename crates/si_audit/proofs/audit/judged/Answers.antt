@@ -7,9 +7,6 @@ use Rattle.sia_parts.specs.Parts.{IsInPart}
 use Rattle.si_audit.proofs.Shared.Owed.{each_owed}
 use Rattle.si_audit.proofs.audit.judged.Goals as goal
 
-pub of-requires : goal.of-requires
-of-requires g c = c.requires.cutting
-
 pub of-requires-2 : goal.of-requires-2
 of-requires-2 g c =
     let parts = c.args.parts.now in

@@ -29,16 +29,6 @@ push_snapshots-requires c =
     let h = c.args.history.now in
     subst (λ (all : List Bounds). EachTxn (IsKnownOf h) h all) (sym c.deref-3.ensures.value) c.in_ok-bounds_of.ensures
 
-pub push_danger-requires : goal.push_danger-requires
-push_danger-requires c = record {
-  index = c.requires.index;
-  accesses = c.requires.accesses;
-  judgement = c.requires.judgement;
-}
-
-pub push_verdict_reasons-requires : goal.push_verdict_reasons-requires
-push_verdict_reasons-requires c = record { index = c.requires.index; verdict = c.requires.judgement.verdict }
-
 pub returns : goal.returns
 returns c =
     let h = c.args.history.now in

@@ -16,12 +16,6 @@ use Rattle.si_audit.proofs.Shared.Results.{ok_map}
 use Rattle.si_audit.proofs.Shared.Telling.{with_reasons}
 use Rattle.si_audit.proofs.explain.push_danger.Goals as goal
 
-pub danger_of-requires : goal.danger_of-requires
-danger_of-requires c = record {
-  accesses = c.requires.accesses;
-  judgement = subst (λ h. IsJudgement h c.args.j.now) (sym c.requires.index) c.requires.judgement;
-}
-
 pub returns-in_default : goal.returns-in_default
 returns-in_default c =
     let g = c.args.of.now.index.now in

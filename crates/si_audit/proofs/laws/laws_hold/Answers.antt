@@ -8,32 +8,16 @@ use Rattle.si_audit.proofs.OfLaws.PlainTexts.{plain_text}
 use Rattle.si_audit.proofs.OfLaws.ReportExists.{one_report_exists}
 use Rattle.si_audit.proofs.laws.laws_hold.Goals as goal
 
-pub returns-clause-one_report : goal.returns-clause-one_report
-returns-clause-one_report c = one_report_of
-
-pub returns-clause-same_report : goal.returns-clause-same_report
-returns-clause-same_report c = same_report
-
-pub returns-clause-levels_law : goal.returns-clause-levels_law
-returns-clause-levels_law c = levels_hold
-
-pub returns-clause-levels_law_of_texts : goal.returns-clause-levels_law_of_texts
-returns-clause-levels_law_of_texts c = clean_holds
-
-pub returns-clause-snapshots_law : goal.returns-clause-snapshots_law
-returns-clause-snapshots_law c = snapshots_hold
-
-pub returns-clause-forms_law : goal.returns-clause-forms_law
-returns-clause-forms_law c = forms_hold
-
-pub returns-clause-lines_law : goal.returns-clause-lines_law
-returns-clause-lines_law c = lines_tell
-
-pub returns-clause-gsi_law : goal.returns-clause-gsi_law
-returns-clause-gsi_law c = gsi_hidden
-
-pub returns-clause-plain_text_law : goal.returns-clause-plain_text_law
-returns-clause-plain_text_law c = plain_text
-
-pub returns-clause-reports_law : goal.returns-clause-reports_law
-returns-clause-reports_law c = one_report_exists
+pub returns : goal.returns
+returns c = record {
+  one_report = one_report_of;
+  same_report = same_report;
+  levels_law = levels_hold;
+  levels_law_of_texts = clean_holds;
+  snapshots_law = snapshots_hold;
+  forms_law = forms_hold;
+  lines_law = lines_tell;
+  gsi_law = gsi_hidden;
+  plain_text_law = plain_text;
+  reports_law = one_report_exists;
+}

@@ -36,14 +36,8 @@ pub push_counts-requires-clause-acts : goal.push_counts-requires-clause-acts
 push_counts-requires-clause-acts c =
     subst (λ (o : Option (Bor Recorded)). IfSome o (λ of. All (λ (b : BadWrite). HasActs of.now.history.now b.second of.now.acts.now) c.args.j.now.bad_writes.items)) c.in-Some.is c.requires.acts
 
-pub push_all-requires-clause-index : goal.push_all-requires-clause-index
-push_all-requires-clause-index c = c.requires.index
-
 pub push_all-requires-clause-found : goal.push_all-requires-clause-found
 push_all-requires-clause-found c = all_found c.args.of _ _ _ _ c.deref-3.ensures.value (λ of is x listed. ((is.bad_reads.each x).0 listed).0) c.requires.judgement
-
-pub push_all-requires-2-clause-index : goal.push_all-requires-2-clause-index
-push_all-requires-2-clause-index c = c.requires.index
 
 pub push_all-requires-2-clause-found : goal.push_all-requires-2-clause-found
 push_all-requires-2-clause-found c =
@@ -53,9 +47,6 @@ push_all-requires-2-clause-found c =
     let each : (of : Bor Recorded) → P of → (b : BadWrite) → Contains writes b → Q of b = λ of is b listed.
     (((is.0.bad_writes.each b).0 listed).0, All-contains (λ (b : BadWrite). HasActs of.now.history.now b.second of.now.acts.now) writes b is.1 listed) in
     all_found c.args.of P Q writes _ c.deref-4.ensures.value each (both_if c.args.of _ _ c.requires.judgement c.requires.acts)
-
-pub push_all-requires-3-clause-index : goal.push_all-requires-3-clause-index
-push_all-requires-3-clause-index c = c.requires.index
 
 pub push_all-requires-3-clause-found : goal.push_all-requires-3-clause-found
 push_all-requires-3-clause-found c = all_found c.args.of _ _ _ _ c.deref-5.ensures.value (λ of is x listed. ((is.unexplained.each x).0 listed).0) c.requires.judgement

@@ -4,44 +4,28 @@ use Rattle.std.specs.Prelude.{unwrap_or, []}
 use Rattle.clap.specs.Words.{Text, first_of, first_value, found_of, rows_of}
 use Rattle.clap.specs.declared.parser.matches.Found.{Found}
 use Rattle.clap.proofs.WalkLemmas.{first_value-rows}
+use Rattle.si_audit.specs.declared.options.Level.{Level}
 use Rattle.si_audit.specs.declared.options.Level.TheVariants.{Gsi, Serializable, Si, Ssi}
 use Rattle.si_audit.specs.Words.{level_named}
 use Rattle.si_audit.proofs.words.level_in.Goals as goal
 
-text_is : (f : Found) (o : Option Text) → o ≡ first_value f (codes "check") → o ≡ first_of (codes "check") (rows_of f)
-text_is f o is = is ∙ first_value-rows f (codes "check")
+named : (f : Found) (o : Option Text) (level : Option Level) → o ≡ first_value f (codes "check") → level ≡ level_named (unwrap_or o []) → level ≡ level_named (unwrap_or (first_of (codes "check") (rows_of f)) [])
+named f o level is same = same ∙ ap (λ (text : Option Text). level_named (unwrap_or text [])) (is ∙ first_value-rows f (codes "check"))
 
 pub returns-in-serializable : goal.returns-in-serializable
-returns-in-serializable c =
-    let is = text_is (found_of c.args.matches.now) (Some c.in_ok-get_str.field-0.now) c.in_ok-get_str.ensures in
-    let named : Some Serializable ≡ level_named c.in_ok-get_str.field-0.now = search rules in
-    named ∙ ap (λ (o : Option Text). level_named (unwrap_or o [])) is
+returns-in-serializable c = named (found_of c.args.matches.now) (Some c.in_ok-get_str.field-0.now) (Some Serializable) c.in_ok-get_str.ensures (search rules)
 
 pub returns-in-ssi : goal.returns-in-ssi
-returns-in-ssi c =
-    let is = text_is (found_of c.args.matches.now) (Some c.in_ok-get_str.field-0.now) c.in_ok-get_str.ensures in
-    let named : Some Ssi ≡ level_named c.in_ok-get_str.field-0.now = search rules in
-    named ∙ ap (λ (o : Option Text). level_named (unwrap_or o [])) is
+returns-in-ssi c = named (found_of c.args.matches.now) (Some c.in_ok-get_str.field-0.now) (Some Ssi) c.in_ok-get_str.ensures (search rules)
 
 pub returns-in-si : goal.returns-in-si
-returns-in-si c =
-    let is = text_is (found_of c.args.matches.now) (Some c.in_ok-get_str.field-0.now) c.in_ok-get_str.ensures in
-    let named : Some Si ≡ level_named c.in_ok-get_str.field-0.now = search rules in
-    named ∙ ap (λ (o : Option Text). level_named (unwrap_or o [])) is
+returns-in-si c = named (found_of c.args.matches.now) (Some c.in_ok-get_str.field-0.now) (Some Si) c.in_ok-get_str.ensures (search rules)
 
 pub returns-in-gsi : goal.returns-in-gsi
-returns-in-gsi c =
-    let is = text_is (found_of c.args.matches.now) (Some c.in_ok-get_str.field-0.now) c.in_ok-get_str.ensures in
-    let named : Some Gsi ≡ level_named c.in_ok-get_str.field-0.now = search rules in
-    named ∙ ap (λ (o : Option Text). level_named (unwrap_or o [])) is
+returns-in-gsi c = named (found_of c.args.matches.now) (Some c.in_ok-get_str.field-0.now) (Some Gsi) c.in_ok-get_str.ensures (search rules)
 
 pub returns-in_default : goal.returns-in_default
-returns-in_default c =
-    let is = text_is (found_of c.args.matches.now) (Some c.in_ok-get_str.field-0.now) c.in_ok-get_str.ensures in
-    let named : None ≡ level_named c.in_ok-get_str.field-0.now = search rules in
-    named ∙ ap (λ (o : Option Text). level_named (unwrap_or o [])) is
+returns-in_default c = named (found_of c.args.matches.now) (Some c.in_ok-get_str.field-0.now) None c.in_ok-get_str.ensures (search rules)
 
 pub returns-in_err-get_str : goal.returns-in_err-get_str
-returns-in_err-get_str c =
-    let is = text_is (found_of c.args.matches.now) None c.in_err-get_str.ensures in
-    c.from_residual.ensures ∙ ap (λ (o : Option Text). level_named (unwrap_or o [])) is
+returns-in_err-get_str c = named (found_of c.args.matches.now) None _ c.in_err-get_str.ensures c.from_residual.ensures

@@ -7,9 +7,6 @@ use Rattle.si_audit.specs.Found.{IsFoundAt}
 use Rattle.si_audit.proofs.Shared.Results.{ok_map, other_error}
 use Rattle.si_audit.proofs.crew.AuditingJob.run.Goals as goal
 
-pub bounds-self-number : goal.bounds-self-number
-bounds-self-number c = c.requires.2
-
 pub find_in_part-requires : goal.find_in_part-requires
 find_in_part-requires c = record {
   index = c.requires.0;
