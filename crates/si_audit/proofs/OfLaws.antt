@@ -1,6 +1,4 @@
 pub mod CountsTold
-pub mod CycleExists
-pub mod ExplainedExists
 pub mod FindingsExist
 pub mod FormsLeft
 pub mod GsiHidden
@@ -12,7 +10,6 @@ pub mod PlainTexts
 pub mod ReasonLines
 pub mod ReportExists
 pub mod ReportLines
-pub mod SnapshotsFit
 pub mod TextLines
 pub mod TokenExists
 pub mod VerdictExists

@@ -2,7 +2,6 @@ pub mod Clean
 pub mod KnownFits
 pub mod KnownSnapshots
 pub mod Marking
-pub mod OneSnapshots
 pub mod KnownRows
 pub mod EachKnown
 pub mod OnSheets

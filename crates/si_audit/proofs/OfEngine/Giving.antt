@@ -16,7 +16,4 @@ pivots_given bytes front edges none pivots back p rest all before gone now split
 
 -- and one of what stands before them
 pub front_given : (bytes front edges pivots back p rest : List ℕ) → bytes ≡ front ++ edges ++ pivots ++ back → front ≡ p ++ rest → bytes ≡ p ++ (rest ++ edges ++ pivots ++ back)
-front_given bytes front edges pivots back p rest all split = all ∙ ap (λ (xs : List ℕ). xs ++ edges ++ pivots ++ back) split ∙ behind p rest edges pivots back
-  where
-    behind : (p r e v b : List ℕ) → (p ++ r) ++ e ++ v ++ b ≡ p ++ (r ++ e ++ v ++ b)
-    behind p r e v b = simp append_assoc
+front_given bytes front edges pivots back p rest all split = all ∙ ap (λ (xs : List ℕ). xs ++ edges ++ pivots ++ back) split ∙ simp append_assoc

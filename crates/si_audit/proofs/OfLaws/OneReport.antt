@@ -55,33 +55,20 @@ one_pivots h ps qs a b = entries h ps qs (one_list_by (λ x. x ∷ []) (IsPivot 
 
 -- a history has one account
 pub one_account : (h : List Event) (a b : Account) → IsAccount h a → IsAccount h b → a ≡ b
-one_account h a b x y =
-    let events : a.events ≡ b.events = x.events ∙ sym y.events in
-    let committed = one_count (IsCommitted h) a.committed b.committed x.committed y.committed in
-    let aborted = one_count (IsAborted h) a.aborted b.aborted x.aborted y.aborted in
-    let unfinished = one_count (IsOpen h) a.unfinished b.unfinished x.unfinished y.unfinished in
-    let bad_reads = one_list_by bad_read_rank (λ r. IsBadRead h r.place r.txn r.key r.saw r.due × ⊤) a.bad_reads b.bad_reads x.bad_reads y.bad_reads in
-    let bad_writes = one_list_by bad_write_rank (λ w. IsBadWrite h w.key w.first w.second × ⊤) a.bad_writes b.bad_writes x.bad_writes y.bad_writes in
-    let unexplained = one_list_by unexplained_rank (λ r. IsUnexplained h r.place r.txn r.key r.saw × ⊤) a.unexplained b.unexplained x.unexplained y.unexplained in
-    let edges = one_list_by edge_rank (λ e. IsEdge h e × ⊤) a.edges b.edges x.edges y.edges in
-    let pivots = one_pivots h a.pivots b.pivots x.pivots y.pivots in
-    let pass : a.pass ≡ b.pass = one_answer {P = PassesSsi h} a.pass b.pass x.pass y.pass in
-    let serializable : a.serializable ≡ b.serializable = one_answer {P = IsSerializable h} a.serializable b.serializable x.serializable y.serializable in
-    let verdict = one_verdict (IsCommitted h) (IsEdge h) a.verdict b.verdict x.verdict y.verdict in
-    λ i. record {
-      events = events i;
-      committed = committed i;
-      aborted = aborted i;
-      unfinished = unfinished i;
-      bad_reads = bad_reads i;
-      bad_writes = bad_writes i;
-      unexplained = unexplained i;
-      edges = edges i;
-      pivots = pivots i;
-      pass = pass i;
-      serializable = serializable i;
-      verdict = verdict i;
-    }
+one_account h a b x y = λ i. record {
+  events = (x.events ∙ sym y.events) i;
+  committed = one_count (IsCommitted h) a.committed b.committed x.committed y.committed i;
+  aborted = one_count (IsAborted h) a.aborted b.aborted x.aborted y.aborted i;
+  unfinished = one_count (IsOpen h) a.unfinished b.unfinished x.unfinished y.unfinished i;
+  bad_reads = one_list_by bad_read_rank (λ r. IsBadRead h r.place r.txn r.key r.saw r.due × ⊤) a.bad_reads b.bad_reads x.bad_reads y.bad_reads i;
+  bad_writes = one_list_by bad_write_rank (λ w. IsBadWrite h w.key w.first w.second × ⊤) a.bad_writes b.bad_writes x.bad_writes y.bad_writes i;
+  unexplained = one_list_by unexplained_rank (λ r. IsUnexplained h r.place r.txn r.key r.saw × ⊤) a.unexplained b.unexplained x.unexplained y.unexplained i;
+  edges = one_list_by edge_rank (λ e. IsEdge h e × ⊤) a.edges b.edges x.edges y.edges i;
+  pivots = one_pivots h a.pivots b.pivots x.pivots y.pivots i;
+  pass = one_answer {P = PassesSsi h} a.pass b.pass x.pass y.pass i;
+  serializable = one_answer {P = IsSerializable h} a.serializable b.serializable x.serializable y.serializable i;
+  verdict = one_verdict (IsCommitted h) (IsEdge h) a.verdict b.verdict x.verdict y.verdict i;
+}
 
 -- of a refusal one thing stands below
 one_token_told : (text : List ℕ) (fault : TextFault) → IsOne (TellsToken text fault)

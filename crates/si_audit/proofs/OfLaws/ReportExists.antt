@@ -45,7 +45,7 @@ use Rattle.si_audit.proofs.OfLaws.OneReport.{one_report_of}
 use Rattle.si_audit.proofs.OfLaws.TokenExists.{token_exists}
 use Rattle.si_audit.specs.Laws.{HasOneReport}
 use Rattle.si_audit.specs.Lines.{is_empty, refusal_line, report_text}
-use Rattle.si_audit.proofs.OfLaws.ExplainedExists.{explained_exists}
+use Rattle.si_audit.proofs.OfLaws.OneExplanation.{explained_exists}
 use Rattle.si_audit.proofs.Shared.Told.{Told}
 use Rattle.si_audit.proofs.OfLaws.FindingsExist.{bad_reads_exist, bad_writes_exist, unexplained_exist}
 use Rattle.si_audit.proofs.OfLaws.OutcomesTold.{kept_told}

@@ -31,20 +31,12 @@ received_longer limits IsWanted l r front rest long received =
 fed_longer : (limits : Limits) (o : Choices) (a : Auditor) (front rest : List ℕ) → limits.bytes < length front → IsFed limits o a front → IsFed limits o a (front ++ rest)
 fed_longer limits o a front rest long fed = record { options = fed.options; received = received_longer limits (o.form ≡ Explained) a.locator a.text front rest long fed.received }
 
-module _ (limits : Limits) (o : Choices) (had left : Option (List ℕ)) (front : List ℕ) (a : Auditor) where
-  pub at_the_end : Consumes had left front → IsAtEnd left → IsFed limits o a front → IfSome had (IsFed limits o a)
-  at_the_end = by_cases had left
-    where
-      by_cases : (had left : Option (List ℕ)) → Consumes had left front → IsAtEnd left → IsFed limits o a front → IfSome had (IsFed limits o a)
-      by_cases None left consumed end fed = tt
-      by_cases (Some xs) None consumed end fed = absurd consumed
-      by_cases (Some xs) (Some ys) consumed end fed =
-          subst (IsFed limits o a) (sym (consumed ∙ ap (λ (m : List ℕ). front ++ m) end ∙ append-nil front)) fed
+pub at_the_end : (limits : Limits) (o : Choices) (had left : Option (List ℕ)) (front : List ℕ) (a : Auditor) → Consumes had left front → IsAtEnd left → IsFed limits o a front → IfSome had (IsFed limits o a)
+at_the_end limits o None left front a consumed end fed = tt
+at_the_end limits o (Some xs) None front a consumed end fed = absurd consumed
+at_the_end limits o (Some xs) (Some ys) front a consumed end fed = subst (IsFed limits o a) (sym (consumed ∙ ap (λ (m : List ℕ). front ++ m) end ∙ append-nil front)) fed
 
-  pub past_the_limit : Consumes had left front → limits.bytes < length front → IsFed limits o a front → IfSome had (IsFed limits o a)
-  past_the_limit = by_cases had left
-    where
-      by_cases : (had left : Option (List ℕ)) → Consumes had left front → limits.bytes < length front → IsFed limits o a front → IfSome had (IsFed limits o a)
-      by_cases None left consumed long fed = tt
-      by_cases (Some xs) None consumed long fed = absurd consumed
-      by_cases (Some xs) (Some ys) consumed long fed = subst (IsFed limits o a) (sym consumed) (fed_longer limits o a front ys long fed)
+pub past_the_limit : (limits : Limits) (o : Choices) (had left : Option (List ℕ)) (front : List ℕ) (a : Auditor) → Consumes had left front → limits.bytes < length front → IsFed limits o a front → IfSome had (IsFed limits o a)
+past_the_limit limits o None left front a consumed long fed = tt
+past_the_limit limits o (Some xs) None front a consumed long fed = absurd consumed
+past_the_limit limits o (Some xs) (Some ys) front a consumed long fed = subst (IsFed limits o a) (sym consumed) (fed_longer limits o a front ys long fed)

@@ -1,6 +1,5 @@
 use Rattle.si_audit.proofs.OfLaws.OneReport.{one_report_of, same_report}
-use Rattle.si_audit.proofs.OfLaws.Levels.{clean_holds, levels_hold}
-use Rattle.si_audit.proofs.OfLaws.SnapshotsFit.{snapshots_hold}
+use Rattle.si_audit.proofs.OfLaws.Levels.{clean_holds, levels_hold, snapshots_hold}
 use Rattle.si_audit.proofs.OfLaws.FormsLeft.{forms_hold}
 use Rattle.si_audit.proofs.OfLaws.OutcomesTold.{lines_tell}
 use Rattle.si_audit.proofs.OfLaws.GsiHidden.{gsi_hidden}

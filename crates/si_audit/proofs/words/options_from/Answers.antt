@@ -1,6 +1,7 @@
 -- The matches of the words are those that the command's own clauses name, and the words are taken where there are some.
-use Rattle.std.proofs.Common.{◌≡◌, ◌≢◌, ◌∙◌, Bool, true, false, refl, sym, subst, ap, map, List, [], Result, Ok, Err, IfErr, string_bytes}
+use Rattle.std.proofs.Common.{◌≡◌, ◌≢◌, ◌∙◌, true, refl, sym, subst, ap, map, List, [], Result, Ok, Err, IfErr, string_bytes}
 use Rattle.std.specs.Prelude.{IsErrAnd}
+use Rattle.std.proofs.lemmas.Bool.{false_from_ne_true}
 use Rattle.std.proofs.lemmas.Result.{IfErr-weaker, IfOk-weaker}
 use Rattle.clap.specs.Words.{App, HasMatchesOf, Row, Text, app_of, fault_of, found_of, is_simple, is_simple_and_free, matches_of, rows_of, takes}
 use Rattle.clap.specs.declared.builder.command.Command.{Command}
@@ -44,16 +45,8 @@ told_owed : (words : List Text) (fault : LineFault) → (takes program words ≡
 told_owed words NoMemory memory cuts level = tt
 told_owed words TooManyCuts memory cuts level = absurd (cuts refl)
 told_owed words UnknownLevel memory cuts level = absurd (level refl)
-told_owed words (Help text) memory cuts level = go (takes program words) refl
-  where
-    go : (b : Bool) → takes program words ≡ b → b ≡ false
-    go true e = let bad : Help text ≡ NoMemory = memory e in cc
-    go false e = refl
-told_owed words (Usage text) memory cuts level = go (takes program words) refl
-  where
-    go : (b : Bool) → takes program words ≡ b → b ≡ false
-    go true e = let bad : Usage text ≡ NoMemory = memory e in cc
-    go false e = refl
+told_owed words (Help text) memory cuts level = false_from_ne_true (takes program words) (λ taken. let bad : Help text ≡ NoMemory = memory taken in cc)
+told_owed words (Usage text) memory cuts level = false_from_ne_true (takes program words) (λ taken. let bad : Usage text ≡ NoMemory = memory taken in cc)
 
 no_memory_owed : {X : Type 0} (words : List Text) (r : Result X LineFault) → IsErrAnd r (λ fault. fault ≡ NoMemory) → IfErr r (IsOwed words)
 no_memory_owed words (Ok o) h = tt
@@ -83,25 +76,17 @@ returns-in_err-command-clause-fault c = no_memory_owed (map string_bytes c.args.
 pub options_of-requires : goal.options_of-requires
 options_of-requires c = numbers_given c.in_ok-command.field-0 c.in-Ok.matches c.in-Ok.ensures.parsed c.in_ok-command.ensures
 
-pub returns-in-Ok-clause-chosen : goal.returns-in-Ok-clause-chosen
-returns-in-Ok-clause-chosen c =
+pub returns-in-Ok : goal.returns-in-Ok
+returns-in-Ok c =
     let words = map string_bytes c.args.words.now in
     let rows = rows_of (found_of c.in-Ok.matches) in
     let p = parsed words c.in_ok-command.field-0 c.in-Ok.matches c.in_ok-command.ensures c.in-Ok.ensures.matches c.in-Ok.ensures.kinds in
-    IfOk-weaker c.options_of.result _ _ (λ o given. chosen_from rows words o p.rows_are p.taken given) c.options_of.ensures.given
-
-pub returns-in-Ok-clause-fault : goal.returns-in-Ok-clause-fault
-returns-in-Ok-clause-fault c =
-    let words = map string_bytes c.args.words.now in
-    let rows = rows_of (found_of c.in-Ok.matches) in
-    let p = parsed words c.in_ok-command.field-0 c.in-Ok.matches c.in_ok-command.ensures c.in-Ok.ensures.matches c.in-Ok.ensures.kinds in
-    IfErr-weaker c.options_of.result _ _ (λ fault owes. owed_from rows words fault p.rows_are p.taken owes) c.options_of.ensures.fault
-
-pub returns-in-Ok-clause-too_many : goal.returns-in-Ok-clause-too_many
-returns-in-Ok-clause-too_many c = many_from (map string_bytes c.args.words.now) c.options_of.result (returns-in-Ok-clause-fault c)
-
-pub returns-in-Ok-clause-no_level : goal.returns-in-Ok-clause-no_level
-returns-in-Ok-clause-no_level c = no_level_from (map string_bytes c.args.words.now) c.options_of.result (returns-in-Ok-clause-fault c)
+    let fault = IfErr-weaker c.options_of.result _ _ (λ fault owes. owed_from rows words fault p.rows_are p.taken owes) c.options_of.ensures.fault in record {
+      chosen = IfOk-weaker c.options_of.result _ _ (λ o given. chosen_from rows words o p.rows_are p.taken given) c.options_of.ensures.given;
+      too_many = many_from words c.options_of.result fault;
+      no_level = no_level_from words c.options_of.result fault;
+      fault = fault;
+    }
 
 pub returns-in-Err-clause-fault : goal.returns-in-Err-clause-fault
 returns-in-Err-clause-fault c =

@@ -2,7 +2,7 @@ use Rattle.std.proofs.Common.{subst, arith}
 use Rattle.sia_parts.specs.EdgeRows.{AreEdgesFrom}
 use Rattle.sia_parts.specs.Parts.{IsWithin}
 use Rattle.sia_parts.proofs.EdgeRows.EdgeLists.{has_number}
-use Rattle.si_audit.proofs.OfReport.RowLines.{text_from}
+use Rattle.si_audit.proofs.OfReport.EdgesInTurn.{text_from}
 use Rattle.si_audit.proofs.edge_lines.EdgeLinesTold.put_of.Goals as goal
 
 pub put_from-requires-clause-source : goal.put_from-requires-clause-source

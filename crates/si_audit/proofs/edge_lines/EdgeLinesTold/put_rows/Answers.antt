@@ -10,7 +10,7 @@ use Rattle.sia_parts.specs.Entries.{kind_number}
 use Rattle.si_audit.specs.declared.sheet.Word.{Word}
 use Rattle.si_audit.specs.EdgeLines.{edge_head}
 use Rattle.si_audit.specs.Sheet.{word_at}
-use Rattle.si_audit.proofs.OfReport.RowLines.{heads_are, numeral_short, row_put}
+use Rattle.si_audit.proofs.OfReport.EdgesInTurn.{heads_are, numeral_short, row_put}
 use Rattle.si_audit.proofs.edge_lines.EdgeLinesTold.put_rows.Goals as goal
 
 numbered : (kind : Kind) → tag_of the_type kind ≡ kind_number kind

@@ -1,6 +1,6 @@
 use Rattle.std.proofs.Common.{arith}
 use Rattle.sia_parts.proofs.EdgeRows.EdgeLists.{has_number}
-use Rattle.si_audit.proofs.OfReport.PivotRows.{text_of_rows}
+use Rattle.si_audit.proofs.OfReport.PivotsInTurn.{text_of_rows}
 use Rattle.si_audit.proofs.pivot_lines.PivotLinesTold.put_of.Goals as goal
 
 pub put_of-requires-clause-number : goal.put_of-requires-clause-number

@@ -8,7 +8,7 @@ use Rattle.si_audit.specs.declared.sheet.Word.{Word}
 use Rattle.si_audit.specs.PivotLines.{lead_number, lead_words}
 use Rattle.si_audit.specs.Sheet.{word_at}
 use Rattle.si_audit.proofs.OfReport.PivotWords.{end_at, lead_is, pivot_row_put}
-use Rattle.si_audit.proofs.OfReport.RowLines.{numeral_short}
+use Rattle.si_audit.proofs.OfReport.EdgesInTurn.{numeral_short}
 use Rattle.si_audit.proofs.pivot_lines.PivotLinesTold.put_rows.Goals as goal
 
 pub of-requires : goal.of-requires

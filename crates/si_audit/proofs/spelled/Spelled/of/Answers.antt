@@ -1,6 +1,6 @@
 use Rattle.std.proofs.Common.{◌<◌, ◌^◌, arith, rules}
 use Rattle.std.specs.Prelude.{slice_index_or}
-use Rattle.si_audit.proofs.OfReport.RowLines.{numeral_short}
+use Rattle.si_audit.proofs.OfReport.EdgesInTurn.{numeral_short}
 use Rattle.si_audit.proofs.spelled.Spelled.of.Goals as goal
 
 pub of-requires : goal.of-requires
