@@ -249,11 +249,26 @@ fn report_in(
             in_full(alloc, outcome, j, index, accesses)
         }
         Form::Brief => in_brief(alloc, outcome, j, &log),
-        Form::Explained => {
-            let sheet = explained(alloc, &log, &index, j, &accesses)?;
-            Ok(one_sheet(alloc, outcome, sheet))
-        }
+        Form::Explained => in_reasons(alloc, outcome, j, &log, &index, &accesses),
     }
+}
+
+fn in_reasons(
+    alloc: Global,
+    outcome: Outcome,
+    j: &Judgement,
+    log: &Log,
+    index: &Index,
+    accesses: &Accesses,
+) -> Result<Answer, NoMemory>
+    requires index { index.now ≡ log.now }
+    requires judgement { IsJudgement log.now j.now }
+    requires accesses { AreAccesses index.now (λ _. ⊤) accesses.now }
+    ensures report { IfOk result (λ a. (bytes : List ℕ) × IsReportOf Form.Explained log.now bytes × HasText a bytes) }
+    ensures outcome { IfOk result (λ a. a.outcome ≡ outcome) }
+{
+    let sheet = explained(alloc, log, index, j, accesses)?;
+    Ok(one_sheet(alloc, outcome, sheet))
 }
 
 fn in_full(
@@ -303,16 +318,26 @@ fn told(
         → HasText a (lines.report_text form (account_with j.now es ps))) }
     ensures outcome { IfOk result (λ a. a.outcome ≡ outcome) }
 {
-    let mut front = Vec::new(alloc);
-    push_front(&mut front, None, j)?;
-    let mut back = Vec::new(alloc);
-    push_back(&mut back, &[], j.pass, j.serializable, &j.verdict)?;
+    let (front, back) = sheets(alloc, j)?;
     Ok(Answer {
         outcome,
         front,
         found,
         back,
     })
+}
+
+/// What stands before the lines of edges, and behind those of pivots.
+fn sheets(alloc: Global, j: &Judgement) -> Result<(Vec<u8>, Vec<u8>), NoMemory>
+    ensures { IfOk result (λ (front, back). (form : Form) (es : List Edge) (ps : List Pivot) (middle : List ℕ)
+        → middle ≡ flat_map lines.edge_line (lines.told form es) ++ flat_map lines.pivot_line (lines.told form ps)
+        → lines.report_text form (account_with j.now es ps) ≡ front.items ++ middle ++ back.items) }
+{
+    let mut front = Vec::new(alloc);
+    push_front(&mut front, None, j)?;
+    let mut back = Vec::new(alloc);
+    push_back(&mut back, &[], j.pass, j.serializable, &j.verdict)?;
+    Ok((front, back))
 }
 
 /// A report on one sheet.

@@ -32,14 +32,9 @@ report_of_nothing = refl
 
 -- write skew
 abbrev pub account_of_write_skew : Account
-account_of_write_skew = record {
+account_of_write_skew = record account_of_nothing {
   events = 8;
   committed = 2;
-  aborted = 0;
-  unfinished = 0;
-  bad_reads = [];
-  bad_writes = [];
-  unexplained = [];
   edges = record { src = 1; kind = Rw; dst = 2; key = 1 } ∷ record { src = 2; kind = Rw; dst = 1; key = 2 } ∷ [];
   pivots = record { txn = 1; ins = 2 ∷ []; outs = 2 ∷ []; firsts = [] } ∷ record { txn = 2; ins = 1 ∷ []; outs = 1 ∷ []; firsts = 1 ∷ [] } ∷ [];
   pass = false;
@@ -57,16 +52,12 @@ brief_report_of_write_skew = refl
 
 -- an aborted version read
 abbrev pub account_of_aborted_read : Account
-account_of_aborted_read = record {
+account_of_aborted_read = record account_of_nothing {
   events = 4;
   committed = 1;
   aborted = 1;
-  unfinished = 0;
   bad_reads = record { place = 2; txn = 2; key = 1; saw = 1; due = 0 } ∷ [];
-  bad_writes = [];
   unexplained = record { place = 2; txn = 2; key = 1; saw = 1 } ∷ [];
-  edges = [];
-  pivots = [];
   pass = false;
   serializable = false;
   verdict = Order (2 ∷ []);
@@ -78,18 +69,12 @@ report_of_aborted_read = refl
 
 -- a lost update: a bad write
 abbrev pub account_of_lost_update : Account
-account_of_lost_update = record {
+account_of_lost_update = record account_of_nothing {
   events = 4;
   committed = 2;
-  aborted = 0;
-  unfinished = 0;
-  bad_reads = [];
   bad_writes = record { key = 1; first = 1; second = 2 } ∷ [];
-  unexplained = [];
   edges = record { src = 1; kind = Ww; dst = 2; key = 1 } ∷ [];
-  pivots = [];
   pass = false;
-  serializable = true;
   verdict = Order (1 ∷ 2 ∷ []);
 }
 

@@ -16,7 +16,6 @@ pub returns-in-Brief-clause-report : goal.returns-in-Brief-clause-report
 returns-in-Brief-clause-report c =
     subst (λ (form : Form). IfOk c.in_brief.result (λ a. (bytes : List ℕ) × IsReportOf form c.args.log bytes × HasText a bytes)) (sym c.in-Brief.is) c.in_brief.ensures.report
 
-pub returns-in_ok-sheet-in-Explained-clause-report : goal.returns-in_ok-sheet-in-Explained-clause-report
-returns-in_ok-sheet-in-Explained-clause-report c =
-    let sheet = c.in_ok-sheet-in-Explained.sheet.items in
-    (sheet, subst (λ (form : Form). IsReportOf form c.args.log sheet) (sym c.in-Explained.is) c.in_ok-sheet-in-Explained.ensures, c.one_sheet.ensures.text)
+pub returns-in-Explained-clause-report : goal.returns-in-Explained-clause-report
+returns-in-Explained-clause-report c =
+    subst (λ (form : Form). IfOk c.in_reasons.result (λ a. (bytes : List ℕ) × IsReportOf form c.args.log bytes × HasText a bytes)) (sym c.in-Explained.is) c.in_reasons.ensures.report
