@@ -1,6 +1,5 @@
 -- The line of counts: there is one, it is the only one, and nothing of it is left where reasons go.
-use Rattle.std.proofs.Common.{◌≡◌, ◌==◌, inl, inr, ℕ, suc, Bool, true, false, cond, List, [], ◌∷◌, ◌++◌, codes, flat_map, map, refl, ap, sym, subst, ◌∙◌}
-use Rattle.std.specs.Prelude.{Contains}
+use Rattle.std.proofs.Common.{◌≡◌, ◌==◌, inl, inr, ℕ, suc, Bool, true, false, cond, List, [], ◌∷◌, ◌++◌, codes, flat_map, map, refl, ap, sym, subst, ◌∙◌, Contains}
 use Rattle.std.proofs.lemmas.Bool.{cases_eq}
 use Rattle.sia_events.specs.declared.event.Anomaly.{Anomaly}
 use Rattle.sia_events.specs.declared.event.Event.{Event}

@@ -1,7 +1,6 @@
 -- An account of a history has an explained report, and no other.
-use Rattle.std.proofs.Common.{◌≡◌, ◌⊎◌, inl, inr, ℕ, ◌≤◌, List, [], ◌∷◌, ◌++◌, codes, ap, sym, subst, ◌∙◌, arith, ◌≢◌, ◌<◌, length, Some, refl}
+use Rattle.std.proofs.Common.{◌≡◌, ◌⊎◌, inl, inr, ℕ, ◌≤◌, List, [], ◌∷◌, ◌++◌, codes, ap, sym, subst, ◌∙◌, arith, ◌≢◌, ◌<◌, length, Some, refl, ◌&&◌}
 use Rattle.sia_events.specs.declared.event.Event.{Event}
-use Rattle.std.specs.Prelude.{◌&&◌}
 use Rattle.sia_events.specs.DangerousStructures.{IsFirst, IsVulnerable}
 use Rattle.sia_events.specs.Dependencies.{RwEdge, IsVersionBefore, WwEdge, IsCommittedWriter}
 use Rattle.sia_events.specs.Events.{Saw}

@@ -1,6 +1,5 @@
 -- Whose events are at hand.
-use Rattle.std.proofs.Common.{◌≡◌, ◌<◌, List, map, subst, sym}
-use Rattle.std.specs.Prelude.{All}
+use Rattle.std.proofs.Common.{◌≡◌, ◌<◌, List, map, subst, sym, All}
 use Rattle.std.proofs.lemmas.List.{get_or-map, length-map}
 
 -- what holds of all that is made of these

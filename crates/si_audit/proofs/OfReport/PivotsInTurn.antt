@@ -1,6 +1,5 @@
 -- The lines of all pivots are those of each number in turn.
-use Rattle.std.proofs.Common.{◌≡◌, ◌≢◌, ◌⊎◌, inl, inr, ◌==◌, Bool, None, ℕ, zero, suc, ◌<◌, List, [], ◌∷◌, ◌++◌, flat_map, get_or, length, map, refl, ap, sym, subst, ◌∙◌, arith, codes, ◌+◌, ◌≤◌}
-use Rattle.std.specs.Prelude.{Contains, filter, slice_index, All}
+use Rattle.std.proofs.Common.{◌≡◌, ◌≢◌, ◌⊎◌, inl, inr, ◌==◌, Bool, None, ℕ, zero, suc, ◌<◌, List, [], ◌∷◌, ◌++◌, flat_map, get_or, length, map, refl, ap, sym, subst, ◌∙◌, arith, codes, ◌+◌, ◌≤◌, Contains, filter, slice_index, All}
 use Rattle.std.proofs.lemmas.Bool.{eq-eqb, eqb-true, cases_eq, cases_lt}
 use Rattle.std.proofs.lemmas.List.{get_or_default}
 use Rattle.std.proofs.lemmas.List.Elements.{Contains-get_or}

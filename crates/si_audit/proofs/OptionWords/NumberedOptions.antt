@@ -1,6 +1,5 @@
 -- What is known of a number within narrower bounds.
-use Rattle.std.proofs.Common.{◌≤◌, ℕ, arith, Option, Some, None}
-use Rattle.std.specs.Prelude.{IsSomeAnd, unwrap_or, []}
+use Rattle.std.proofs.Common.{◌≤◌, ℕ, arith, Option, Some, None, IsSomeAnd, unwrap_or, []}
 use Rattle.clap.specs.Words.{IsUnsignedIn, Text}
 use Rattle.si_audit.specs.Words.{number_in}
 

@@ -1,7 +1,6 @@
 -- The matches of the program's words hold numbers: each text that they have passed its argument's parser.
-use Rattle.std.proofs.Common.{◌≡◌, ◌⊎◌, ◌∙◌, ◌<◌, ◌≤◌, ℕ, Bool, true, false, zero, suc, refl, sym, subst, ap, arith, inl, inr, List, [], ◌∷◌, map, length, Option, Some, None, codes}
+use Rattle.std.proofs.Common.{◌≡◌, ◌⊎◌, ◌∙◌, ◌<◌, ◌≤◌, ℕ, Bool, true, false, zero, suc, refl, sym, subst, ap, arith, inl, inr, List, [], ◌∷◌, map, length, Option, Some, None, codes, IfSome, IsSomeAnd, option_map, slice_get}
 use Rattle.std.specs.List.{All, find, list_all, position_or_len, slice_index_or}
-use Rattle.std.specs.Prelude.{IfSome, IsSomeAnd, option_map, slice_get}
 use Rattle.std.specs.Str.{bytes_eq}
 use Rattle.std.specs.Borrow.{Bor}
 use Rattle.std.proofs.lemmas.List.{length-map}

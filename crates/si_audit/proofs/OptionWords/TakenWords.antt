@@ -1,6 +1,5 @@
 -- Words at which a command without subcommands finds no fault are taken.
-use Rattle.std.proofs.Common.{◌≡◌, ◌∙◌, ◌&&◌, ◌||◌, ◌==◌, ℕ, Bool, true, false, not, zero, suc, refl, sym, arith, List, [], ◌∷◌, length, Option, Some, None, is_some, nat_lt, nat_le, drop}
-use Rattle.std.specs.Prelude.{if◌then◌else◌, codes, encode_utf8, slice_get}
+use Rattle.std.proofs.Common.{◌≡◌, ◌∙◌, ◌&&◌, ◌||◌, ◌==◌, ℕ, Bool, true, false, not, zero, suc, refl, sym, arith, List, [], ◌∷◌, length, Option, Some, None, is_some, nat_lt, nat_le, drop, if◌then◌else◌, codes, encode_utf8, slice_get}
 use Rattle.std.specs.List.{list_all}
 use Rattle.std.specs.Option.{option_map_or}
 use Rattle.std.specs.Str.{bytes_eq, chars}

@@ -1,6 +1,5 @@
 -- The answers that are owed to the parts, one to each, in order.
-use Rattle.std.proofs.Common.{◌≡◌, ℕ, suc, ◌<◌, List, [], ◌∷◌, length, slice_index_or, arith}
-use Rattle.std.specs.Prelude.{IfSome}
+use Rattle.std.proofs.Common.{◌≡◌, ℕ, suc, ◌<◌, List, [], ◌∷◌, length, slice_index_or, arith, IfSome}
 use Rattle.std.specs.List.{AllZip, slice_get}
 
 -- as many answers as parts, each owed to the part at its place

@@ -1,6 +1,5 @@
 -- What holds of the answer, where there is one.
-use Rattle.std.proofs.Common.{◌≡◌, Result, Ok, Err, IfOk, subst, sym}
-use Rattle.std.specs.Prelude.{MatchResult, IsErrAnd}
+use Rattle.std.proofs.Common.{◌≡◌, Result, Ok, Err, IfOk, subst, sym, MatchResult, IsErrAnd}
 
 -- a fact of the answer from another
 pub ok_map : {A E : Type 0} (P Q : A → Type 0) (r : Result A E) → ((x : A) → P x → Q x) → IfOk r P → IfOk r Q

@@ -1,6 +1,5 @@
 -- The latest commit that a transaction's writes ask for, as it is found version by version.
-use Rattle.std.proofs.Common.{◌≡◌, ◌⊎◌, inl, inr, ℕ, ◌+◌, ◌<◌, ◌≤◌, Bool, true, false, ltb, List, [], Option, Some, None, length, get_or, take, refl, sym, subst, ◌∙◌, arith}
-use Rattle.std.specs.Prelude.{All, AllPairs, Contains, MatchOption, is_some, not, slice_index, unwrap_or}
+use Rattle.std.proofs.Common.{◌≡◌, ◌⊎◌, inl, inr, ℕ, ◌+◌, ◌<◌, ◌≤◌, Bool, true, false, ltb, List, [], Option, Some, None, length, get_or, take, refl, sym, subst, ◌∙◌, arith, All, AllPairs, Contains, MatchOption, is_some, not, slice_index, unwrap_or}
 use Rattle.std.specs.List.Sorted.{IsPartitionPoint}
 use Rattle.std.proofs.lemmas.Bool.{cases_lt, false≢true, ltb-false, ltb-true, not_from_false}
 use Rattle.std.proofs.lemmas.List.{get_or_default}

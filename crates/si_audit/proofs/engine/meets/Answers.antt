@@ -1,6 +1,5 @@
 -- What a judgement says of each level.
-use Rattle.std.proofs.Common.{◌↔◌, subst, sym}
-use Rattle.std.specs.Prelude.{IsTrue}
+use Rattle.std.proofs.Common.{◌↔◌, subst, sym, IsTrue}
 use Rattle.std.proofs.lemmas.Bool.{both_ways}
 use Rattle.si_audit.specs.declared.options.Level.{Level}
 use Rattle.si_audit.specs.Outcomes.{Meets}

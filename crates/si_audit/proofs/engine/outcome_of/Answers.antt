@@ -1,6 +1,5 @@
 -- How the run ends at a level.
-use Rattle.std.proofs.Common.{◌≡◌, ◌⊎◌, inl, inr, Bool, Option, None, Some, List, ◌↔◌, subst, sym}
-use Rattle.std.specs.Prelude.{IsTrue, MatchOption}
+use Rattle.std.proofs.Common.{◌≡◌, ◌⊎◌, inl, inr, Bool, Option, None, Some, List, ◌↔◌, subst, sym, IsTrue, MatchOption}
 use Rattle.sia_events.specs.declared.event.Event.{Event}
 use Rattle.si_audit.specs.declared.options.Level.{Level}
 use Rattle.si_audit.specs.declared.options.Level.TheVariants.{Gsi}

@@ -1,6 +1,5 @@
 -- Findings are counted one after another, and then the counts are told.
-use Rattle.std.proofs.Common.{◌≡◌, ◌≢◌, ◌+◌, ◌++◌, ◌∙◌, [], ℕ, List, get_or, set, take, flat_map, ap, sym, subst, refl, rules, append_assoc, arith}
-use Rattle.std.proofs.lemmas.List.{take_all}
+use Rattle.std.proofs.Common.{◌≡◌, ◌≢◌, ◌+◌, ◌++◌, ◌∙◌, [], ℕ, List, get_or, set, take, flat_map, ap, sym, subst, refl, rules, append_assoc, arith, take_all}
 use Rattle.std.proofs.lemmas.List.Elements.{All-contains}
 use Rattle.std.proofs.lemmas.Result.{on_ok_weaker}
 use Rattle.sia_events.specs.Transactions.{HasEvent, StartsAt}

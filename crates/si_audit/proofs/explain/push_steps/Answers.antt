@@ -1,12 +1,10 @@
 -- Words that are pushed one after another.
-use Rattle.std.proofs.Common.{Ok, rules}
+use Rattle.std.proofs.Common.{Ok, rules, ℕ, List, [], ◌∷◌, ◌++◌, ◌∙◌, get_or, refl, codes}
 use Rattle.std.proofs.lemmas.Iterator.{YieldsList-from_map, YieldsList-from_slice, items_from_collect}
 use Rattle.std.proofs.lemmas.Iterator.Consumers.{YieldsList-at}
 use Rattle.sia_parts.specs.Acts.{HasActs}
 use Rattle.sia_parts.specs.Sightings.{reader_of}
 use Rattle.si_audit.proofs.OfReasons.Readers.{all_of_map}
-use Rattle.std.proofs.Common.{ℕ, List, [], ◌∷◌, ◌++◌, ◌∙◌, get_or, refl}
-use Rattle.std.specs.Prelude.{codes}
 use Rattle.sia_events.specs.Text.{numeral}
 use Rattle.sia_parts.specs.declared.finding.Edge.{Edge}
 use Rattle.sia_parts.specs.declared.finding.Kind.TheVariants.{Ww}

@@ -1,7 +1,5 @@
-use Rattle.std.proofs.Common.{◌≡◌, Option, Bor, subst, sym}
-use Rattle.std.specs.Prelude.{All, IfSome}
+use Rattle.std.proofs.Common.{◌≡◌, Option, Bor, subst, sym, All, IfSome, take_all}
 use Rattle.sia_parts.specs.declared.reasons.Recorded.{Recorded}
-use Rattle.std.proofs.lemmas.List.{take_all}
 use Rattle.si_audit.specs.Explained.{TellsAll, WithReasons, TellsIf}
 use Rattle.si_audit.proofs.Shared.Telling.{IsToldBehind, next_item_told, told_if_none, told_if_some, told_none, with_reasons}
 use Rattle.si_audit.proofs.report.push_all.Goals as goal

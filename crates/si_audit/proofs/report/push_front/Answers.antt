@@ -1,5 +1,4 @@
-use Rattle.std.proofs.Common.{◌≡◌, ◌&&◌, ◌++◌, ◌∙◌, ℕ, List, Option, Some, None, Bor, ap, get_or, subst}
-use Rattle.std.specs.Prelude.{All, Contains, IfSome}
+use Rattle.std.proofs.Common.{◌≡◌, ◌&&◌, ◌++◌, ◌∙◌, ℕ, List, Option, Some, None, Bor, ap, get_or, subst, All, Contains, IfSome}
 use Rattle.std.proofs.lemmas.List.Elements.{All-contains, All-contains_itself}
 use Rattle.sia_events.specs.Isolation.{IsBadWrite}
 use Rattle.sia_parts.specs.Acts.{HasActs}

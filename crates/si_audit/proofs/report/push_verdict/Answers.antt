@@ -1,5 +1,4 @@
-use Rattle.std.proofs.Common.{List, ℕ, [], ◌∷◌, ◌≡◌, ◌++◌, ap, codes, flat_map, subst, sym, take_all, ◌∙◌, append-nil, refl, Some, None}
-use Rattle.std.specs.List.{slice_get}
+use Rattle.std.proofs.Common.{List, ℕ, [], ◌∷◌, ◌≡◌, ◌++◌, ap, codes, flat_map, subst, sym, take_all, ◌∙◌, append-nil, refl, Some, None, slice_get}
 use Rattle.sia_events.specs.Text.{numeral}
 use Rattle.std.proofs.lemmas.Result.{on_ok_weaker}
 use Rattle.sia_graph.specs.declared.cycle.Step.{Step}

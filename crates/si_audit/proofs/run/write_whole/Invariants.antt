@@ -1,6 +1,5 @@
 -- What was written is a front of the report, whose rest is yet to be given.
-use Rattle.std.proofs.Common.{◌≡◌, ◌<◌, List, ℕ, [], ◌++◌, IsFalse}
-use Rattle.std.specs.Prelude.{vec_capacity}
+use Rattle.std.proofs.Common.{◌≡◌, ◌<◌, List, ℕ, [], ◌++◌, IsFalse, vec_capacity}
 use Rattle.std.specs.Io.KnownBytes.{Appends}
 use Rattle.si_audit.specs.Left.{IsYet, bytes_left}
 use Rattle.si_audit.proofs.run.write_whole.Given as goal

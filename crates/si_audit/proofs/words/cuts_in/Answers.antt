@@ -1,7 +1,5 @@
 -- The texts of the cuts, where the matches have some, are numbers of 64 bits.
-use Rattle.std.proofs.Common.{◌≡◌, ◌∙◌, ◌+◌, ◌<◌, ◌++◌, length, take, get_or, ap₂, refl, sym, subst, ap, arith, zero, suc, map, ℕ, List, [], ◌∷◌, Option, Some, None, codes, Bor}
-use Rattle.std.specs.List.{All}
-use Rattle.std.specs.Prelude.{IfSome, option_map, unwrap_or}
+use Rattle.std.proofs.Common.{◌≡◌, ◌∙◌, ◌+◌, ◌<◌, ◌++◌, length, take, get_or, ap₂, refl, sym, subst, ap, arith, zero, suc, map, ℕ, List, [], ◌∷◌, Option, Some, None, codes, Bor, All, IfSome, option_map, unwrap_or}
 use Rattle.std.proofs.lemmas.List.{map-append, take_all, take_more}
 use Rattle.clap.specs.Words.{IsUnsignedIn, Text, all_of, found_of, matched_of, raw_values, rows_of}
 use Rattle.clap.specs.declared.parser.matches.Found.{Found}

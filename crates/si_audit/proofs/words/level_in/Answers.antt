@@ -1,6 +1,5 @@
 -- The name of the level is the text that the matches have.
-use Rattle.std.proofs.Common.{◌≡◌, ◌∙◌, ap, Option, Some, None, codes, rules}
-use Rattle.std.specs.Prelude.{unwrap_or, []}
+use Rattle.std.proofs.Common.{◌≡◌, ◌∙◌, ap, Option, Some, None, codes, rules, unwrap_or, []}
 use Rattle.clap.specs.Words.{Text, first_of, first_value, found_of, rows_of}
 use Rattle.clap.specs.declared.parser.matches.Found.{Found}
 use Rattle.clap.proofs.WalkLemmas.{first_value-rows}

@@ -1,6 +1,5 @@
 -- The matches have the text of the option, and it is a number.
-use Rattle.std.proofs.Common.{◌≡◌, ◌∙◌, refl, sym, subst, ap, arith, Option, Some, None, Bor}
-use Rattle.std.specs.Prelude.{IsSome, IsSomeAnd, option_map, unwrap_or, []}
+use Rattle.std.proofs.Common.{◌≡◌, ◌∙◌, refl, sym, subst, ap, arith, Option, Some, None, Bor, IsSome, IsSomeAnd, option_map, unwrap_or, []}
 use Rattle.clap.specs.Words.{IsUnsignedIn, Text, first_of, first_value, found_of, rows_of}
 use Rattle.clap.specs.declared.parser.matches.Found.{Found}
 use Rattle.clap.proofs.WalkLemmas.{first_value-rows}

@@ -1,6 +1,5 @@
 -- The matches of the words are those that the command's own clauses name, and the words are taken where there are some.
-use Rattle.std.proofs.Common.{◌≡◌, ◌≢◌, ◌∙◌, true, refl, sym, subst, ap, map, List, [], Result, Ok, Err, IfErr, string_bytes}
-use Rattle.std.specs.Prelude.{IsErrAnd}
+use Rattle.std.proofs.Common.{◌≡◌, ◌≢◌, ◌∙◌, true, refl, sym, subst, ap, map, List, [], Result, Ok, Err, IfErr, string_bytes, IsErrAnd}
 use Rattle.std.proofs.lemmas.Bool.{false_from_ne_true}
 use Rattle.std.proofs.lemmas.Result.{IfErr-weaker, IfOk-weaker}
 use Rattle.clap.specs.Words.{App, HasMatchesOf, Row, Text, app_of, fault_of, found_of, is_simple, is_simple_and_free, matches_of, rows_of, takes}

@@ -1,7 +1,6 @@
 -- The first words fit a word, and each row puts its line.
 use denote.Enum.Declared.{tag_of}
-use Rattle.std.proofs.Common.{◌≡◌, ◌++◌, ◌+◌, ◌<◌, ◌≤◌, ◌^◌, List, [], ◌∷◌, get_or, length, take, refl, ap, subst, ◌∙◌, arith, rules}
-use Rattle.std.specs.Prelude.{slice_index}
+use Rattle.std.proofs.Common.{◌≡◌, ◌++◌, ◌+◌, ◌<◌, ◌≤◌, ◌^◌, List, [], ◌∷◌, get_or, length, take, refl, ap, subst, ◌∙◌, arith, rules, slice_index}
 use Rattle.sia_parts.specs.contracts.finding.Kind.{the_type}
 use Rattle.sia_parts.specs.declared.finding.Kind.{Kind}
 use Rattle.sia_parts.specs.declared.edges.EdgeTo.{EdgeTo}

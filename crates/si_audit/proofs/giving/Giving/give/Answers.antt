@@ -1,6 +1,5 @@
 -- The sheet gives, and where it is empty it is filled.
-use Rattle.std.proofs.Common.{rules, ◌≡◌, ◌+◌, ◌++◌, ◌≤◌, ◌-◌, ℕ, List, [], length, append-nil, refl, ap, sym, ◌∙◌, arith}
-use Rattle.std.specs.Prelude.{vec_capacity}
+use Rattle.std.proofs.Common.{rules, ◌≡◌, ◌+◌, ◌++◌, ◌≤◌, ◌-◌, ℕ, List, [], length, append-nil, refl, ap, sym, ◌∙◌, arith, vec_capacity}
 use Rattle.si_audit.specs.Giving.{rows_left}
 use Rattle.si_audit.proofs.OfReport.TextsInTurn.{all_given, emptied, fewer_steps, none_told, piece_given, some_left}
 use Rattle.si_audit.proofs.giving.Giving.give.Goals as goal

@@ -1,6 +1,5 @@
 -- What is left is the same.
-use Rattle.std.proofs.Common.{◌≡◌, ◌≤◌, ℕ, List}
-use Rattle.std.specs.Prelude.{vec_capacity}
+use Rattle.std.proofs.Common.{◌≡◌, ◌≤◌, ℕ, List, vec_capacity}
 use Rattle.si_audit.specs.Giving.{CanFill, IsLeft, steps_left}
 use Rattle.si_audit.proofs.giving.Giving.give.Given as goal
 

@@ -1,7 +1,5 @@
 -- Each step puts rows on the sheet, or takes the next transaction.
-use Rattle.std.proofs.Common.{rules, ◌≡◌, inl, ◌+◌, ◌++◌, ◌<◌, ◌≤◌, ◌-◌, ◌*◌, [], length, subst, ◌∙◌, arith}
-use Rattle.std.specs.Prelude.{vec_capacity}
-use Rattle.std.proofs.lemmas.List.{length-take-le}
+use Rattle.std.proofs.Common.{rules, ◌≡◌, inl, ◌+◌, ◌++◌, ◌<◌, ◌≤◌, ◌-◌, ◌*◌, [], length, subst, ◌∙◌, arith, vec_capacity, length-take-le}
 use Rattle.si_audit.specs.Giving.{rows_left}
 use Rattle.si_audit.specs.Sheet.{text_on}
 use Rattle.si_audit.proofs.OfReport.TextsInTurn.{fewer_taken, next_taken, next_told, piece_put}

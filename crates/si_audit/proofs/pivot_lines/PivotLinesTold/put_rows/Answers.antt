@@ -1,6 +1,5 @@
 -- The first words fit a word, and each row puts its words.
-use Rattle.std.proofs.Common.{◌≡◌, ◌++◌, ◌+◌, ◌<◌, ◌≤◌, ◌^◌, List, [], ◌∷◌, Option, get_or, length, take, ap, subst, ◌∙◌, arith, rules}
-use Rattle.std.specs.Prelude.{slice_index}
+use Rattle.std.proofs.Common.{◌≡◌, ◌++◌, ◌+◌, ◌<◌, ◌≤◌, ◌^◌, List, [], ◌∷◌, Option, get_or, length, take, ap, subst, ◌∙◌, arith, rules, slice_index}
 use Rattle.sia_graph.specs.declared.neighbours.Neighbour.{Neighbour}
 use Rattle.sia_graph.specs.declared.neighbours.Role.{Role}
 use Rattle.sia_graph.specs.declared.neighbours.Role.TheVariants.{In}

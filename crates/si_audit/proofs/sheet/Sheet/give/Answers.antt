@@ -1,5 +1,4 @@
-use Rattle.std.proofs.Common.{◌≡◌, ◌++◌, ◌+◌, ◌-◌, ℕ, List, drop, length, take, ap, sym, ◌∙◌, arith, length-append, refl}
-use Rattle.std.proofs.lemmas.List.{drop_at, drop-drop}
+use Rattle.std.proofs.Common.{◌≡◌, ◌++◌, ◌+◌, ◌-◌, ℕ, List, drop, length, take, ap, sym, ◌∙◌, arith, length-append, refl, drop_at, drop-drop}
 use Rattle.std.proofs.lemmas.Slice.{between_is}
 use Rattle.si_audit.proofs.sheet.Sheet.give.Goals as goal
 

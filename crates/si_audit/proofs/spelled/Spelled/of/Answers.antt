@@ -1,5 +1,4 @@
-use Rattle.std.proofs.Common.{◌<◌, ◌^◌, arith, rules}
-use Rattle.std.specs.Prelude.{slice_index_or}
+use Rattle.std.proofs.Common.{◌<◌, ◌^◌, arith, rules, slice_index_or}
 use Rattle.si_audit.proofs.OfReport.EdgesInTurn.{numeral_short}
 use Rattle.si_audit.proofs.spelled.Spelled.of.Goals as goal
 
