@@ -1,3 +1,2 @@
 pub mod Giving
 pub mod OfHistory
-pub mod ToldByForms

@@ -2,5 +2,4 @@ pub mod Chains
 pub mod EdgesInTurn
 pub mod PivotsInTurn
 pub mod PivotWords
-pub mod SpacedWords
 pub mod TextsInTurn

@@ -1,2 +1,1 @@
 pub mod OfSource
-pub mod ReadSoFar

@@ -17,5 +17,4 @@ pub mod Standing
 pub mod RowTells
 pub mod SightsSoFar
 pub mod Telling
-pub mod Told
 pub mod WrittenLows

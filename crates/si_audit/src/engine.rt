@@ -204,8 +204,26 @@ fn report_of_log<C: Crew>(
 {
     let index = index_log(alloc, &log)?;
     let (judgement, accesses) = judged_in_parts(crew, alloc, &log, &index, o)?;
-    let outcome = outcome_of(alloc, &log, &index, &judgement, o.level())?;
-    report_in(alloc, o.form(), outcome, log, index, &judgement, accesses)
+    report_of_judgement(alloc, log, index, &judgement, accesses, o)
+}
+
+/// The same, where the history is judged.
+fn report_of_judgement(
+    alloc: Global,
+    log: Log,
+    index: Index,
+    j: &Judgement,
+    accesses: Accesses,
+    o: &Options,
+) -> Result<Answer, NoMemory>
+    requires index { index ≡ log }
+    requires judgement { IsJudgement log j.now }
+    requires accesses { AreAccesses index (λ _. ⊤) accesses }
+    ensures report { IfOk result (λ a. (bytes : List ℕ) × IsReportOf o.now.form log bytes × HasText a bytes) }
+    ensures outcome { IfOk result (λ a. IsOutcomeOf o.now.level log a.outcome) }
+{
+    let outcome = outcome_of(alloc, &log, &index, j, o.level())?;
+    report_in(alloc, o.form(), outcome, log, index, j, accesses)
 }
 
 /// How the run of a history ends at the level.

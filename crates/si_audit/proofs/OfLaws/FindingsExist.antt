@@ -1,9 +1,10 @@
 -- A well-formed history has a list of its bad reads, one of its bad writes, and one of its unexplained reads.
-use Rattle.std.proofs.Common.{◌≡◌, ◌≢◌, ◌⊎◌, inl, inr, ℕ, zero, suc, ◌^◌, ◌<◌, ◌≤◌, Some, List, [], ◌∷◌, flat_map, length, get_or, refl, ap, sym, subst, ◌∙◌, arith}
+use Rattle.std.proofs.Common.{◌≡◌, ◌≢◌, ◌⊎◌, inl, inr, ℕ, zero, suc, ◌+◌, ◌^◌, ◌<◌, ◌≤◌, Some, List, [], ◌∷◌, flat_map, length, get_or, refl, ap, sym, subst, ◌∙◌, arith}
 use Rattle.std.specs.Prelude.{Contains, ⊤}
-use Rattle.std.specs.List.{AllByRecursion}
+use Rattle.std.specs.List.{AllByRecursion, range_with_len}
 use Rattle.std.proofs.lemmas.Bool.{cases_eq, cases_lt}
 use Rattle.std.proofs.lemmas.List.Elements.{Contains-get_or}
+use Rattle.std.proofs.lemmas.List.FromFn.{get_or-range_with_len, length-range_with_len}
 use Rattle.sia_events.specs.declared.event.Event.{Event}
 use Rattle.sia_events.specs.declared.event.Event.TheVariants.{Write}
 use Rattle.sia_events.specs.Events.{actor, Saw}
@@ -28,24 +29,18 @@ use Rattle.sia_parts.specs.declared.finding.Unexplained.{Unexplained}
 use Rattle.sia_parts.specs.Entries.{bad_read_rank, bad_write_rank, unexplained_rank}
 use Rattle.sia_parts.specs.Findings.{ListsBadReads, ListsBadWrites, ListsUnexplained}
 use Rattle.sia_parts.proofs.Auditing.KeyLemmas.{seen_key}
-use Rattle.sia_parts.proofs.Auditing.Members.{contains_first, contains_later}
+use Rattle.sia_parts.proofs.Auditing.Members.{contains_first}
 use Rattle.sia_graph.proofs.Shared.Deciding.{either_decided, not_decided, three_decided}
 use Rattle.sia_graph.proofs.Shared.Facts.{commits_before_decided, lifetime_of}
 use Rattle.sia_graph.proofs.OfLaws.FiniteLists.{contains_flat, list_of}
 
--- the numbers below n, and the lists of so many of them
-below : ℕ → List ℕ
-below zero = []
-below (suc n) = n ∷ below n
+in_below : (n x : ℕ) → x < n → Contains (range_with_len 0 n) x
+in_below n x l = let long = length-range_with_len 0 n in let same : 0 + x ≡ x = omega arith in (x, omega arith, get_or-range_with_len 0 n x x l ∙ same)
 
-in_below : (n x : ℕ) → x < n → Contains (below n) x
-unfolding below
-in_below zero x l = absurd (omega arith)
-in_below (suc n) x l = elim (cases_eq n x) [ inl e ↦ subst (Contains (n ∷ below n)) e (contains_first n (below n)) | inr other ↦ contains_later n x (below n) (in_below n x (omega arith)) ]
-
+-- the lists of so many numbers below n
 tuples : ℕ → ℕ → List (List ℕ)
 tuples n zero = [] ∷ []
-tuples n (suc many) = flat_map (λ x. flat_map (λ xs. (x ∷ xs) ∷ []) (tuples n many)) (below n)
+tuples n (suc many) = flat_map (λ x. flat_map (λ xs. (x ∷ xs) ∷ []) (tuples n many)) (range_with_len 0 n)
 
 in_tuples : (n many : ℕ) (xs : List ℕ) → length xs ≡ many → AllByRecursion (λ x. x < n) xs → Contains (tuples n many) xs
 unfolding tuples
@@ -53,7 +48,7 @@ in_tuples n zero [] long all = contains_first [] []
 in_tuples n zero (x ∷ xs) long all = absurd (omega arith)
 in_tuples n (suc many) [] long all = absurd (omega arith)
 in_tuples n (suc many) (x ∷ xs) long all =
-    contains_flat (λ y. flat_map (λ ys. (y ∷ ys) ∷ []) (tuples n many)) (below n) x (x ∷ xs) (in_below n x all.0)
+    contains_flat (λ y. flat_map (λ ys. (y ∷ ys) ∷ []) (tuples n many)) (range_with_len 0 n) x (x ∷ xs) (in_below n x all.0)
     (contains_flat (λ ys. (x ∷ ys) ∷ []) (tuples n many) xs (x ∷ xs) (in_tuples n many xs (omega arith) all.1) (contains_first (x ∷ xs) []))
 
 -- a number above all that a text can name

@@ -1,12 +1,12 @@
 -- An account of a history has an explained report, and no other.
 use Rattle.std.proofs.Common.{◌≡◌, ◌⊎◌, inl, inr, ℕ, ◌≤◌, List, [], ◌∷◌, ◌++◌, codes, ap, sym, subst, ◌∙◌, arith, ◌≢◌, ◌<◌, length, Some, refl, ◌&&◌}
 use Rattle.sia_events.specs.declared.event.Event.{Event}
-use Rattle.sia_events.specs.DangerousStructures.{IsFirst, IsVulnerable}
+use Rattle.sia_events.specs.DangerousStructures.{IsFirst, IsVulnerable, NoFirst}
 use Rattle.sia_events.specs.Dependencies.{RwEdge, IsVersionBefore, WwEdge, IsCommittedWriter}
 use Rattle.sia_events.specs.Events.{Saw}
 use Rattle.sia_events.specs.Refusals.{IsWellFormed}
 use Rattle.sia_events.specs.Text.{numeral}
-use Rattle.sia_events.specs.Transactions.{AbortsAt, CommitsAt, IsOpen, CommitsBefore, IsCommitted, Overlap, WritesAt, Wrote, WroteBefore}
+use Rattle.sia_events.specs.Transactions.{AbortsAt, CommitsAt, IsOpen, CommitsBefore, IsCommitted, Overlap, Wrote, WroteBefore}
 use Rattle.sia_events.proofs.OfLaws.Anomalies.{anomaly_law}
 use Rattle.sia_events.proofs.OfLaws.Due.{one_due}
 use Rattle.sia_events.proofs.OfLaws.Endings.{one_abort, one_end}
@@ -20,6 +20,7 @@ use Rattle.sia_parts.specs.declared.finding.Kind.{Kind}
 use Rattle.sia_parts.specs.declared.finding.Kind.TheVariants.{Ww, Wr, Rw}
 use Rattle.sia_parts.specs.declared.finding.Unexplained.{Unexplained}
 use Rattle.sia_parts.specs.Telling.{TellsUnless, TellsVersion, event_words, start_words}
+use Rattle.sia_parts.proofs.OfReasons.Named.{due_written}
 use Rattle.sia_graph.specs.declared.ssi.Dangerous.{Dangerous}
 use Rattle.sia_graph.specs.declared.judgement.Verdict.{Verdict}
 use Rattle.sia_graph.specs.declared.judgement.Verdict.TheVariants.{Order, Cycle}
@@ -30,13 +31,13 @@ use Rattle.si_audit.specs.Lines.{bad_read_line, bad_write_line, edge_word, event
 use Rattle.si_audit.specs.Reasons.{TellsBadRead, TellsBadWrite, TellsClass, TellsConflict, TellsEvents, TellsSight, TellsStep, TellsUnexplained, anomaly_words, reason, untold_of}
 use Rattle.si_audit.proofs.OfLaws.CountsTold.{one_counts, counts_told}
 use Rattle.si_audit.proofs.Shared.SnapshotsExist.{one_snapshots, snapshots_exist, some_or_none}
-use Rattle.si_audit.proofs.Shared.Told.{IsOne, one_all, Told, all_told}
+use Rattle.si_audit.proofs.Shared.Telling.{IsOne, Told, all_told, one_all}
 use Rattle.std.proofs.lemmas.Bool.{cases_eq, cases_lt}
 use Rattle.std.proofs.lemmas.Option.{slice_get_within}
 use Rattle.sia_events.specs.declared.event.Event.TheVariants.{Write}
 use Rattle.sia_events.specs.Isolation.{IsBadRead, IsBadWrite, IsUnexplained, IsolationKept}
 use Rattle.sia_events.specs.Places.{at_place}
-use Rattle.sia_events.specs.Reads.{IsDue, SawAt}
+use Rattle.sia_events.specs.Reads.{SawAt}
 use Rattle.sia_events.proofs.Shared.Decisions.{Decided, both, decided_alike, first_below}
 use Rattle.sia_events.proofs.OfLaws.SawDecisions.{saw_at_or_not}
 use Rattle.sia_events.proofs.Shared.TransactionDecisions.{aborted_or_not, at_or_not, committed_or_not, has_start, wrote_before_or_not, wrote_or_not}
@@ -209,17 +210,12 @@ module _ (h : List Event) (wf : IsWellFormed h) where
   saw_wrote : (p t k v : ℕ) → SawAt h p t k v → v ≢ 0 → Wrote h v k
   saw_wrote p t k v (e, at, same, saw) some = let w = seen_was_written h wf p k v e at saw some in (w.0, w.2)
 
-  due_wrote : (t p k v : ℕ) → IsDue h t p k v → v ≢ 0 → Wrote h v k
-  due_wrote t p k v (inl own) some = (own.0.0, subst (λ (u : ℕ). WritesAt h u k own.0.0) (sym own.1) own.0.2)
-  due_wrote t p k v (inr (out, inl newest)) some = newest.0.0
-  due_wrote t p k v (inr (out, inr none)) some = absurd (some none.1)
-
   bad_read_told : (b : BadRead) → IsBadRead h b.place b.txn b.key b.saw b.due → Told (TellsBadRead h b)
   bad_read_told b bad =
       let name = (anomaly_law h wf).named b.place b.txn b.key b.saw b.due bad in
       let start = has_start h b.txn (b.place, (bad.0.0, bad.0.1, bad.0.2)) in
       let saw = unless_told 0 (codes "  saw: ") (codes "\n") b.key b.saw (saw_wrote b.place b.txn b.key b.saw bad.0) in
-      let due = unless_told 0 (codes "  due: ") (codes "\n") b.key b.due (due_wrote b.txn b.place b.key b.due bad.1) in
+      let due = unless_told 0 (codes "  due: ") (codes "\n") b.key b.due (due_written h b.txn b.place b.key b.due bad.1) in
       (_, (name.0, start.0, saw.0, due.0, name.1, start.1, saw.1, due.1, refl))
 
   unexplained_told : (b : Unexplained) → IsUnexplained h b.place b.txn b.key b.saw → Told (TellsUnexplained h b)
@@ -356,6 +352,12 @@ module _ (h : List Event) (wf : IsWellFormed h) where
   has_first_or_not : (t : ℕ) → Decided (HasFirst h t)
   has_first_or_not t = some_committed h (IsFirst h t) (first_or_not t) (λ u f. target_committed h t u f.0)
 
+  some_first : Decided ((t : ℕ) × HasFirst h t)
+  some_first = some_committed h (HasFirst h) has_first_or_not (λ t x. source_committed h t x.0 x.1.0)
+
+  pub no_first_or_not : Decided (NoFirst h)
+  no_first_or_not = elim some_first [ inl w ↦ inr (λ none. none w.0 w.1.0 w.1.1) | inr none ↦ inl (λ t u f. none (t, (u, f))) ]
+
   structure_told : (d : Dangerous) → RwEdge h d.first d.pivot d.first_key → RwEdge h d.pivot d.last d.last_key → Told (WithReasons dangerous_line (λ d. TellsAll (TellsStep h) (dangerous_edges d)) d)
   structure_told d a b =
       let one = step_told (record { src = d.first; kind = Rw; dst = d.pivot; key = d.first_key }) a in
@@ -376,7 +378,7 @@ module _ (h : List Event) (wf : IsWellFormed h) where
 
   danger_told : Decided (IsolationKept h) → Told (TellsDanger h)
   danger_told (inr broken) = ([], inl ((λ kept. absurd (broken kept)), refl))
-  danger_told (inl kept) = elim (some_committed h (HasFirst h) has_first_or_not (λ t x. source_committed h t x.0 x.1.0)) [
+  danger_told (inl kept) = elim some_first [
     | inl w ↦ dangerous_told kept w.0 w.1
     | inr none ↦ ([], inl ((λ k t u f. none (t, (u, f))), refl))
   ]

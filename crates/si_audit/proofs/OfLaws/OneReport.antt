@@ -29,7 +29,7 @@ use Rattle.si_audit.specs.Lines.{refusal_line}
 use Rattle.si_audit.specs.RefusedPlaces.{TellsToken, place_line}
 use Rattle.si_audit.specs.Report.{HasSameReport, IsReport, OneReport, TellsAccount, TellsRefusal}
 use Rattle.si_audit.proofs.OfLaws.OneExplanation.{one_explained}
-use Rattle.si_audit.proofs.Shared.Told.{IsOne}
+use Rattle.si_audit.proofs.Shared.Telling.{IsOne}
 
 -- a pivot's transaction tells its neighbours
 one_entry : (h : List Event) (p q : Pivot) → p.txn ≡ q.txn → ListsNeighbours h p → ListsNeighbours h q → p ≡ q

@@ -1,7 +1,8 @@
 -- How the run of a text ends, read off the lines of its report.
-use Rattle.std.proofs.Common.{◌≡◌, ◌⊎◌, ◌↔◌, ◌&&◌, inl, inr, ℕ, Bool, true, false, List, [], ◌∷◌, ◌++◌, codes, refl, ap, sym, subst, ◌∙◌, ◌≢◌, cond, filter, get_or, append-nil, arith, append_assoc, Contains}
+use Rattle.std.proofs.Common.{◌≡◌, ◌⊎◌, ◌↔◌, ◌&&◌, inl, inr, ℕ, Bool, true, false, List, [], ◌∷◌, ◌++◌, codes, refl, ap, sym, subst, ◌∙◌, ◌≢◌, filter, get_or, append-nil, arith, append_assoc, Contains}
 use Rattle.std.specs.Prelude.{⊤}
 use Rattle.std.specs.List.{concat}
+use Rattle.std.proofs.lemmas.List.Elements.{All-contains, All-contains_itself, All-filter}
 use Rattle.std.proofs.lemmas.Bool.{and_from, and_parts, false_from_ne_true}
 use Rattle.sia_events.specs.Limits.{Limits}
 use Rattle.sia_events.specs.declared.event.Event.{Event}
@@ -11,6 +12,7 @@ use Rattle.sia_events.specs.Isolation.{IsBadRead, IsBadWrite, IsolationKept}
 use Rattle.sia_events.specs.Refusals.{IsAccepted, IsRefusal}
 use Rattle.sia_events.specs.Text.{StandsFor}
 use Rattle.sia_events.proofs.Shared.Canonical.{spellings_injective}
+use Rattle.sia_index.proofs.VersionRows.StableDeal.{filter_has}
 use Rattle.sia_parts.specs.declared.finding.BadRead.{BadRead}
 use Rattle.sia_parts.specs.declared.finding.BadWrite.{BadWrite}
 use Rattle.sia_parts.specs.Findings.{ListsBadReads, ListsBadWrites}
@@ -26,37 +28,19 @@ use Rattle.si_audit.specs.Laws.{LinesLaw, TellsOutcomes, begins, lines_of}
 use Rattle.si_audit.specs.Lines.{is_empty, refusal_line, isolation_line, report_text, serializable_line, ssi_line}
 use Rattle.si_audit.specs.Outcomes.{IsOutcome, Meets}
 use Rattle.si_audit.specs.Report.{TellsAccount, TellsRefusal}
-use Rattle.sia_parts.proofs.Auditing.Members.{contains_first, contains_later, contains_none, first_or_later}
+use Rattle.sia_parts.proofs.Auditing.Members.{contains_first, contains_none, first_or_later}
 use Rattle.si_audit.proofs.OfLaws.ReportLines.{isolation_is, long_is, refusal_is, report_leaves, serializable_is, ssi_is, stays}
 use Rattle.si_audit.proofs.OfLaws.TextLines.{IsLine, Leaves, lines_again, what_is_left}
 use Rattle.si_audit.proofs.OfLaws.FormsLeft.{account_leaves, refused_leaves, told_in, verdict_begins}
 
--- what a filter keeps is in what it leaves
-module _ (keep : List ℕ → Bool) (l : List ℕ) (stay : keep l ≡ true) where
-  kept_there : (ls : List (List ℕ)) → Contains ls l → Contains (filter keep ls) l
-  kept_there [] c = absurd (contains_none l c)
-  kept_there (m ∷ ls) c = by_case (keep m) refl (first_or_later m l ls c) (kept_there ls)
-    where
-      by_case : (b : Bool) → keep m ≡ b → (m ≡ l) ⊎ Contains ls l → (Contains ls l → Contains (filter keep ls) l) → Contains (cond b (m ∷ filter keep ls) (filter keep ls)) l
-      by_case true e (inl same) rest = subst (Contains (m ∷ filter keep ls)) same (contains_first m (filter keep ls))
-      by_case true e (inr later) rest = contains_later m l (filter keep ls) (rest later)
-      by_case false e (inl same) rest = let no : true ≡ false = sym stay ∙ ap keep (sym same) ∙ e in absurd cc
-      by_case false e (inr later) rest = rest later
-
-  there_kept : (ls : List (List ℕ)) → Contains (filter keep ls) l → Contains ls l
-  there_kept [] c = absurd (contains_none l c)
-  there_kept (m ∷ ls) c = by_case (keep m) c (λ d. contains_later m l ls (there_kept ls d))
-    where
-      by_case : (b : Bool) → Contains (cond b (m ∷ filter keep ls) (filter keep ls)) l → (Contains (filter keep ls) l → Contains (m ∷ ls) l) → Contains (m ∷ ls) l
-      by_case true d rest = elim (first_or_later m l (filter keep ls) d) [ inl same ↦ subst (Contains (m ∷ ls)) same (contains_first m ls) | inr later ↦ rest later ]
-      by_case false d rest = rest d
-
-  same_line : (bytes left : List ℕ) → Leaves keep bytes left → Contains (lines_of bytes) l ↔ Contains (lines_of left) l
-  same_line bytes left leaves =
-      let lines = (what_is_left keep bytes left leaves).1 in (
-        λ c. subst (λ (ls : List (List ℕ)). Contains ls l) (sym lines) (kept_there (lines_of bytes) c),
-        λ c. there_kept (lines_of bytes) (subst (λ (ls : List (List ℕ)). Contains ls l) lines c),
-      )
+-- a line that a filter keeps is in what it leaves
+same_line : (keep : List ℕ → Bool) (l : List ℕ) → keep l ≡ true → (bytes left : List ℕ) → Leaves keep bytes left → Contains (lines_of bytes) l ↔ Contains (lines_of left) l
+same_line keep l stay bytes left leaves =
+    let ls = lines_of bytes in
+    let lines = (what_is_left keep bytes left leaves).1 in (
+      λ c. subst (λ (ms : List (List ℕ)). Contains ms l) (sym lines) (filter_has keep ls l stay c),
+      λ c. All-contains (Contains ls) (filter keep ls) l (All-filter keep (Contains ls) ls (All-contains_itself ls)) (subst (λ (ms : List (List ℕ)). Contains ms l) lines c),
+    )
 
 one_line : (l m : List ℕ) → IsLine l → Contains (lines_of l) m → l ≡ m
 one_line l m is c =

@@ -1,7 +1,6 @@
 -- Each text has one report of each form.
-use Rattle.std.proofs.Common.{◌≡◌, ◌⊎◌, ◌↔◌, inl, inr, ℕ, suc, ◌<◌, ◌≤◌, ◌&&◌, Bool, true, false, Some, List, [], ◌∷◌, ◌++◌, length, Result, Ok, Err, refl, sym, subst, ◌∙◌, arith, Contains, IsTrue}
+use Rattle.std.proofs.Common.{◌≡◌, ◌⊎◌, ◌↔◌, inl, inr, ℕ, suc, ◌<◌, ◌≤◌, ◌&&◌, Bool, true, false, Some, List, [], ◌∷◌, ◌++◌, length, Result, Ok, Err, refl, sym, ◌∙◌, arith, IsTrue}
 use Rattle.std.proofs.lemmas.Bool.{cases_Bool, cases_lt}
-use Rattle.std.proofs.lemmas.List.Elements.{All-contains}
 use Rattle.sia_events.specs.Limits.{Limits, greatest, AreWithin}
 use Rattle.sia_events.specs.declared.event.Event.{Event}
 use Rattle.sia_events.specs.declared.event.Event.TheVariants.{Abort, Commit}
@@ -9,7 +8,7 @@ use Rattle.sia_events.specs.declared.fault.Reason.{Reason}
 use Rattle.sia_events.specs.declared.fault.TextFault.{TextFault}
 use Rattle.sia_events.specs.declared.fault.TextFault.TheVariants.{NoMemory, TextTooLong, Refused}
 use Rattle.sia_events.specs.Isolation.{IsolationKept}
-use Rattle.sia_events.specs.DangerousStructures.{IsFirst, NoFirst, PassesSsi}
+use Rattle.sia_events.specs.DangerousStructures.{NoFirst, PassesSsi}
 use Rattle.sia_events.specs.Judging.{JudgedAll, StopsAt, judged}
 use Rattle.sia_events.specs.Events.{actor}
 use Rattle.sia_events.specs.Places.{at_place}
@@ -23,15 +22,9 @@ use Rattle.sia_events.proofs.Shared.FirstFaults.{stops_first}
 use Rattle.sia_events.proofs.OfLaws.Histories.{has_history}
 use Rattle.sia_events.proofs.JudgedTexts.Judged.{JudgedAll-none, StopsAt-after, StopsAt-first, StopsAt-more}
 use Rattle.sia_events.proofs.Shared.TransactionDecisions.{aborted_or_not, committed_or_not, open_or_not, place_within}
-use Rattle.sia_parts.proofs.Auditing.Members.{contains_first, contains_none}
 use Rattle.sia_graph.specs.declared.judgement.Verdict.{Verdict}
 use Rattle.sia_graph.specs.declared.judgement.Verdict.TheVariants.{Order, Cycle}
 use Rattle.sia_graph.specs.Verdicts.{IsOrderVerdict}
-use Rattle.sia_graph.specs.declared.pivot.Pivot.{Pivot}
-use Rattle.sia_graph.specs.Pivots.{ListsNeighbours}
-use Rattle.sia_graph.proofs.Shared.Deciding.{element_decided, not_decided}
-use Rattle.sia_graph.proofs.OfPivots.ListedAs.{mapped}
-use Rattle.sia_graph.proofs.Shared.Positions.{contains_stands, stands_contains}
 use Rattle.sia_graph.proofs.OfLaws.FiniteHistories.{listing_holds}
 use Rattle.sia_graph.proofs.OnEvidence.Judging.{serializable_where}
 use Rattle.sia_graph.proofs.OfLaws.ReplayLaw.{replay_holds}
@@ -44,8 +37,8 @@ use Rattle.si_audit.proofs.OfLaws.OneReport.{one_report_of}
 use Rattle.si_audit.proofs.OfLaws.TokenExists.{token_exists}
 use Rattle.si_audit.specs.Laws.{HasOneReport}
 use Rattle.si_audit.specs.Lines.{is_empty, refusal_line, report_text}
-use Rattle.si_audit.proofs.OfLaws.OneExplanation.{explained_exists}
-use Rattle.si_audit.proofs.Shared.Told.{Told}
+use Rattle.si_audit.proofs.OfLaws.OneExplanation.{explained_exists, no_first_or_not}
+use Rattle.si_audit.proofs.Shared.Telling.{Told}
 use Rattle.si_audit.proofs.OfLaws.FindingsExist.{bad_reads_exist, bad_writes_exist, unexplained_exist}
 use Rattle.si_audit.proofs.OfLaws.OutcomesTold.{kept_told}
 use Rattle.si_audit.proofs.OfLaws.VerdictExists.{txns_listed, verdict_exists}
@@ -62,10 +55,6 @@ ordered_or_not (Cycle steps) = inr (λ is. is)
 empty_or_not : {A : Type 0} (xs : List A) → Decided (xs ≡ [])
 empty_or_not [] = inl refl
 empty_or_not (x ∷ xs) = inr (λ e. cc)
-
-has_some : {A : Type 0} (xs : List A) → ¬ (xs ≡ []) → (x : A) × Contains xs x
-has_some [] some = absurd (some refl)
-has_some (x ∷ xs) some = (x, contains_first x xs)
 
 -- a token after another is taken, up to one that is refused
 module _ (limits : Limits) where
@@ -96,23 +85,6 @@ module _ (h : List Event) (wf : IsWellFormed h) where
   counted : (P : ℕ → Type 0) → ((t : ℕ) → Decided (P t)) → ((t : ℕ) → P t → (p : ℕ) × (e : Event) × (at_place h p ≡ Some e) × (actor e ≡ t)) → (n : ℕ) × CountsAll P n
   counted P decide acts = let ts = txns_listed h P decide acts in (length ts.0, (ts.0, ts.1, refl))
 
-  no_first_or : Decided (NoFirst h)
-  no_first_or =
-      let (ps, are) = (listing_holds h wf).1 in
-      elim (element_decided (λ (p : Pivot). ¬ (p.firsts ≡ [])) (λ p. not_decided (p.firsts ≡ []) (empty_or_not p.firsts)) ps) [
-        | inl w ↦
-            let (i, p, at, some) = w in
-            let n = All-contains (ListsNeighbours h) ps p are.neighbours (stands_contains ps p (i, at)) in
-            let first = has_some p.firsts some in
-            inr (λ none. none p.txn first.0 ((n.firsts.each first.0).0 first.1))
-        | inr none ↦ inl (λ t u f.
-            let m = (mapped (λ (p : Pivot). p.txn) ps t).0 ((are.txns.each t).1 ((f.2, f.3), (u, f.0))) in
-            let n = All-contains (ListsNeighbours h) ps m.0 are.neighbours m.1 in
-            let c = (n.firsts.each u).1 (subst (λ (x : ℕ). IsFirst h x u) (sym m.2) f) in
-            let s = contains_stands ps m.0 m.1 in
-            none (s.0, m.0, s.1, λ empty. contains_none u (subst (λ (xs : List ℕ). Contains xs u) empty c)))
-      ]
-
   account_exists : (a : Account) × IsAccount h a
   account_exists =
       let committed = counted (IsCommitted h) (committed_or_not h) (λ t c. (c.0, Commit t, c.1, refl)) in
@@ -125,7 +97,7 @@ module _ (h : List Event) (wf : IsWellFormed h) where
       let verdict = verdict_exists h wf in
       let kept = kept_told h reads.0 writes.0 reads.1 writes.1 in
       let kept_or_not : Decided (IsolationKept h) = elim (cases_Bool (is_empty reads.0 && is_empty writes.0)) [ inl e ↦ inl (kept.0 e) | inr e ↦ inr (λ k. let same = sym (kept.1 k) ∙ e in cc) ] in
-      let pass = bit (PassesSsi h) (both (IsolationKept h) (NoFirst h) kept_or_not no_first_or) in
+      let pass = bit (PassesSsi h) (both (IsolationKept h) (NoFirst h) kept_or_not (no_first_or_not h wf)) in
       let serial = bit (IsOrderVerdict verdict.0 × (odd.0 ≡ [])) (both (IsOrderVerdict verdict.0) (odd.0 ≡ []) (ordered_or_not verdict.0) (empty_or_not odd.0)) in (
         record {
           events = length h;

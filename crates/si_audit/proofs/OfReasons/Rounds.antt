@@ -1,6 +1,6 @@
--- The edges of the steps of a cycle.
-use Rattle.std.proofs.Common.{◌≡◌, ℕ, zero, suc, ◌+◌, ◌<◌, List, [], ◌∷◌, ◌++◌, length, take, get_or, refl, sym, subst, ap, ap₂, ◌∙◌, arith, All}
-use Rattle.std.proofs.lemmas.List.{take_more}
+-- The edges of the steps of a cycle, and whose events are at hand.
+use Rattle.std.proofs.Common.{◌≡◌, ◌<◌, List, map, subst, sym, All, ℕ, zero, suc, ◌+◌, [], ◌∷◌, ◌++◌, length, take, get_or, refl, ap, ap₂, ◌∙◌, arith}
+use Rattle.std.proofs.lemmas.List.{get_or-map, length-map, take_more}
 use Rattle.std.proofs.lemmas.List.Elements.{All-cons, All-nil}
 use Rattle.sia_events.specs.declared.event.Event.{Event}
 use Rattle.sia_parts.specs.declared.finding.Edge.{Edge}
@@ -9,6 +9,12 @@ use Rattle.sia_graph.specs.declared.judgement.Verdict.TheVariants.{Cycle}
 use Rattle.sia_graph.specs.Cycles.{GoesRound, IsPrintedCycle, step_edge}
 use Rattle.si_audit.specs.Explained.{TellsAll, TellsCycle, TellsVerdict, edges_round}
 use Rattle.si_audit.specs.Reasons.{TellsClass, TellsStep}
+
+-- what holds of all that is made of these
+pub all_of_map : {A B : Type 0} (P : B → Type 0) (f : A → B) (xs : List A) (ys : List B) → ys ≡ map f xs → All P ys → All (λ x. P (f x)) xs
+all_of_map P f xs ys is all k d below =
+    subst P (get_or-map f xs k d (f d) below)
+    (subst (All P) is all k (f d) (subst (λ n. k < n) (sym (length-map xs f)) below))
 
 -- each step of a cycle takes an edge
 pub all_are_edges : (IsEdge : Edge → Type 0) (stuck : List ℕ) (steps : List Step) (home : ℕ) → GoesRound IsEdge stuck steps home → All IsEdge (edges_round steps home)

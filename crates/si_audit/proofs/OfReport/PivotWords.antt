@@ -19,7 +19,7 @@ use Rattle.si_audit.specs.Sheet.{text_of, word_at}
 use Rattle.si_audit.specs.Spaced.{spaced}
 use Rattle.si_audit.specs.Spelled.{txn_word}
 use Rattle.si_audit.proofs.OfReport.EdgesInTurn.{line_put, spelled_at}
-use Rattle.si_audit.proofs.OfReport.SpacedWords.{join_spaced, spaced-append}
+use Rattle.si_audit.proofs.OfReport.Chains.{join_spaced, spaced-append}
 
 -- what stands behind the rows before these
 abbrev pub end_words : List Neighbour → List ℕ

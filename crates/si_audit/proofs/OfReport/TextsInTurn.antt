@@ -11,22 +11,15 @@ use Rattle.si_audit.specs.Giving.{AreTexts, IsTextOf}
 
 module _ (Tells : ℕ → List ℕ → Type 0) where
   -- where some are left there is a next one
-  parted : (from to : ℕ) (text : List ℕ) (texts : List (List ℕ)) → AreTexts Tells from texts → from + length texts ≡ to → text ≡ concat texts → from < to
-      → (own : List ℕ) × (rest : List ℕ) × Tells from own × IsTextOf Tells (from + 1) to rest × (text ≡ own ++ rest)
-  parted from to text [] are long is less = absurd (omega arith)
-  parted from to text (own ∷ texts) are long is less = (own, concat texts, are.0, (texts, are.1, omega arith, refl), is)
-
   pub next_told : (from to : ℕ) (text : List ℕ) → IsTextOf Tells from to text → from < to
       → (own : List ℕ) × (rest : List ℕ) × Tells from own × IsTextOf Tells (from + 1) to rest × (text ≡ own ++ rest)
-  next_told from to text (texts, are, long, is) less = parted from to text texts are long is less
+  next_told from to text ([], are, long, is) less = absurd (omega arith)
+  next_told from to text (own ∷ texts, are, long, is) less = (own, concat texts, are.0, (texts, are.1, omega arith, refl), is)
 
   -- where none is left there is no text
-  nothing : (from to : ℕ) (text : List ℕ) (texts : List (List ℕ)) → from + length texts ≡ to → text ≡ concat texts → to ≤ from → text ≡ []
-  nothing from to text [] long is past = is
-  nothing from to text (own ∷ texts) long is past = absurd (omega arith)
-
   pub none_told : (from to : ℕ) (text : List ℕ) → IsTextOf Tells from to text → to ≤ from → text ≡ []
-  none_told from to text (texts, are, long, is) past = nothing from to text texts long is past
+  none_told from to text ([], are, long, is) past = is
+  none_told from to text (own ∷ texts, are, long, is) past = absurd (omega arith)
 
 moved : (a b c d : List ℕ) → a ++ (b ++ c) ++ d ≡ (a ++ b) ++ c ++ d
 moved a b c d = simp append_assoc
@@ -57,13 +50,10 @@ emptied s now mine rest text given blank at =
     let (low, high) = now.bounds in
     at ∙ ap (λ (xs : List ℕ). xs ++ mine ++ rest) (all_given s given ∙ sym (all_given now (omega arith)))
 
-joined : (a b c d : List ℕ) → (a ++ b) ++ c ++ d ≡ a ++ (b ++ c ++ d)
-joined a b c d = simp append_assoc
-
 -- a piece of it was given
 pub piece_given : (s now : Sheet) (piece mine rest text : List ℕ) → drop s.given (text_on s) ≡ piece ++ drop now.given (text_on now) → text ≡ drop s.given (text_on s) ++ mine ++ rest
     → text ≡ piece ++ (drop now.given (text_on now) ++ mine ++ rest)
-piece_given s now piece mine rest text parted at = at ∙ ap (λ (xs : List ℕ). xs ++ mine ++ rest) parted ∙ joined piece (drop now.given (text_on now)) mine rest
+piece_given s now piece mine rest text parted at = at ∙ ap (λ (xs : List ℕ). xs ++ mine ++ rest) parted ∙ simp append_assoc
 
 -- each row counts as much as a full sheet
 pub fewer_steps : (less more size bytes : ℕ) → less < more → bytes ≤ size → less * (size + 1) + bytes < more * (size + 1)

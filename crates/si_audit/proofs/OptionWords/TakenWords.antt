@@ -39,6 +39,32 @@ met : (b : Bool) (k : ErrorKind) → (if b then [] else k ∷ []) ≡ [] → b �
 met true k e = refl
 met false k e = cc
 
+-- ---- steps, if what has no kind passes
+
+both_taken : (a b : Kinds) (p q : Bool) → (a ≡ [] → p ≡ true) → (b ≡ [] → q ≡ true) → or_else a b ≡ [] → (p && q) ≡ true
+both_taken a b p q first second e = let parts = neither a b e in and_from p q (first parts.0) (second parts.1)
+
+if_taken : (b : Bool) (x y : Kinds) (p q : Bool) → (x ≡ [] → p ≡ true) → (y ≡ [] → q ≡ true) → (if b then x else y) ≡ [] → (if b then p else q) ≡ true
+if_taken true x y p q one other e = one e
+if_taken false x y p q one other e = other e
+
+or_taken : (b : Bool) (y : Kinds) (q : Bool) → (y ≡ [] → q ≡ true) → (if b then [] else y) ≡ [] → (b || q) ≡ true
+or_taken true y q other e = refl
+or_taken false y q other e = other e
+
+unless_taken : (b : Bool) (k : ErrorKind) (y : Kinds) (q : Bool) → (y ≡ [] → q ≡ true) → (if b then k ∷ [] else y) ≡ [] → (not b && q) ≡ true
+unless_taken true k y q other e = cc
+unless_taken false k y q other e = other e
+
+spared : (b d : Bool) (k : ErrorKind) (ks : Kinds) → (if b && not d then k ∷ ks else []) ≡ [] → (not b || d) ≡ true
+spared true true k ks e = refl
+spared true false k ks e = cc
+spared false d k ks e = refl
+
+map_taken : {A : Type 0} (f : A → Kinds) (p : A → Bool) (x : Kinds) (q : Bool) → ((a : A) → f a ≡ [] → p a ≡ true) → (x ≡ [] → q ≡ true) → (o : Option A) → option_map_or f o x ≡ [] → option_map_or p o q ≡ true
+map_taken f p x q each none None e = none e
+map_taken f p x q each none (Some a) e = each a e
+
 -- ---- values
 
 value_taken : (i : Bool) (p : ValueParser) (t : Text) → value_kinds i p t ≡ [] → accepts i p t ≡ true
@@ -46,9 +72,7 @@ value_taken i p t e = met (accepts i p t) (refused_kind p) e
 
 values_taken : (i : Bool) (p : ValueParser) (ts : List Text) → values_kinds i p ts ≡ [] → list_all (accepts i p) ts ≡ true
 values_taken i p [] e = refl
-values_taken i p (t ∷ ts) e =
-    let parts = neither (value_kinds i p t) (values_kinds i p ts) e in
-    and_from _ _ (value_taken i p t parts.0) (values_taken i p ts parts.1)
+values_taken i p (t ∷ ts) e = both_taken (value_kinds i p t) (values_kinds i p ts) _ _ (value_taken i p t) (values_taken i p ts) e
 
 range_taken : (least most n : ℕ) → range_kinds least most n ≡ [] → (nat_le least n ≡ true) × (nat_le n most ≡ true)
 range_taken least most n e = go (least == most) refl (not_met (nat_lt 0 least && n == 0) kind.InvalidValue _ e).1
@@ -68,15 +92,10 @@ range_taken least most n e = go (least == most) refl (not_met (nat_lt 0 least &&
 
 -- ---- one use of an argument
 
-repeat_taken : (h again : Bool) → (if h && not again then kind.ArgumentConflict ∷ [] else []) ≡ [] → (not h || again) ≡ true
-repeat_taken true true e = refl
-repeat_taken true false e = cc
-repeat_taken false again e = refl
-
 set_taken : (again : Bool) (a : Rule) (values : List Text) (rows : List Row) → action_fault action.Set again a values rows ≡ [] → action_passes action.Set again a values rows ≡ true
 set_taken again a values rows e =
-    let parts = neither _ _ e in
-    and_from _ _ (repeat_taken (has_row a.id rows) again parts.0) (values_taken a.ignore_case (parser_of_value a.parser) values parts.1)
+    both_taken (if has_row a.id rows && not again then kind.ArgumentConflict ∷ [] else []) _ _ _
+    (spared (has_row a.id rows) again kind.ArgumentConflict []) (values_taken a.ignore_case (parser_of_value a.parser) values) e
 
 action_taken : (x : ArgAction) (again : Bool) (a : Rule) (values : List Text) (rows : List Row) → action_fault x again a values rows ≡ [] → action_passes x again a values rows ≡ true
 action_taken action.Set again a values rows e = set_taken again a values rows e
@@ -98,22 +117,12 @@ use_taken again a values rows e =
 
 module _ (c : List Rule) (again : Bool) where
   settle_taken : (h : Held) → settle_fault c again h ≡ [] → settle_passes c again h ≡ true
-  settle_taken h e = go h.pending e
-    where
-      used : (p : Text × List Text) (o : Option Rule) → option_map_or (λ a. use_fault again a p.1 h.rows) o [] ≡ []
-          → option_map_or (λ a. use_passes again a p.1 h.rows) o true ≡ true
-      used p None e = refl
-      used p (Some a) e = use_taken again a p.1 h.rows e
-
-      go : (o : Option (Text × List Text)) → option_map_or (λ p. option_map_or (λ a. use_fault again a p.1 h.rows) (arg_by_id c p.0) []) o [] ≡ []
-          → option_map_or (λ p. option_map_or (λ a. use_passes again a p.1 h.rows) (arg_by_id c p.0) true) o true ≡ true
-      go None e = refl
-      go (Some p) e = used p (arg_by_id c p.0) e
+  settle_taken h e =
+      map_taken (λ (p : Text × List Text). option_map_or (λ a. use_fault again a p.1 h.rows) (arg_by_id c p.0) []) (λ p. option_map_or (λ a. use_passes again a p.1 h.rows) (arg_by_id c p.0) true) [] true
+      (λ p. map_taken (λ a. use_fault again a p.1 h.rows) (λ a. use_passes again a p.1 h.rows) [] true (λ a. use_taken again a p.1 h.rows) (λ none. refl) (arg_by_id c p.0)) (λ none. refl) h.pending e
 
   react_taken : (a : Rule) (values : List Text) (h : Held) → react_fault c again a values h ≡ [] → react_passes c again a values h ≡ true
-  react_taken a values h e =
-      let parts = neither (settle_fault c again h) _ e in
-      and_from _ _ (settle_taken h parts.0) (use_taken again a values (settled c h).rows parts.1)
+  react_taken a values h e = both_taken (settle_fault c again h) (use_fault again a values (settled c h).rows) _ _ (settle_taken h) (use_taken again a values (settled c h).rows) e
 
   option_taken : (a : Rule) (v : Option Text) (h : Held) → option_fault c again a v h ≡ [] → option_passes c again a v h ≡ true
   option_taken a None h e = settle_taken h e
@@ -121,26 +130,16 @@ module _ (c : List Rule) (again : Bool) where
 
   long_taken : (found : Option Rule) (v : Option Text) (h : Held) → long_fault c again found v h ≡ [] → long_passes c again found v h ≡ true
   long_taken None v h e = cc
-  long_taken (Some a) v h e = go (takes_values a) v e
-    where
-      go : (b : Bool) (w : Option Text)
-          → (if b then option_fault c again a w h else (if is_some w then kind.TooManyValues ∷ [] else react_fault c again a [] h)) ≡ []
-          → (if b then option_passes c again a w h else (not (is_some w) && react_passes c again a [] h)) ≡ true
-      go true w e = option_taken a w h e
-      go false None e = react_taken a [] h e
-      go false (Some w) e = cc
+  long_taken (Some a) v h e =
+      if_taken (takes_values a) (option_fault c again a v h) _ (option_passes c again a v h) _ (option_taken a v h)
+      (unless_taken (is_some v) kind.TooManyValues (react_fault c again a [] h) (react_passes c again a [] h) (react_taken a [] h)) e
 
   short_taken : (found : Option Rule) (rest : Text) (h : Held) (kinds : Held → Kinds) (passes : Held → Bool)
       → ((g : Held) → kinds g ≡ [] → passes g ≡ true) → short_fault c again found rest h kinds ≡ [] → short_passes c again found rest h passes ≡ true
   short_taken None rest h kinds passes after e = cc
-  short_taken (Some a) rest h kinds passes after e = go (takes_values a) e
-    where
-      go : (b : Bool) → (if b then option_fault c again a (attached_value rest) h else or_else (react_fault c again a [] h) (kinds (reacted c a [] h))) ≡ []
-          → (if b then option_passes c again a (attached_value rest) h else (react_passes c again a [] h && passes (reacted c a [] h))) ≡ true
-      go true e = option_taken a (attached_value rest) h e
-      go false e =
-          let parts = neither (react_fault c again a [] h) _ e in
-          and_from _ _ (react_taken a [] h parts.0) (after (reacted c a [] h) parts.1)
+  short_taken (Some a) rest h kinds passes after e =
+      if_taken (takes_values a) (option_fault c again a (attached_value rest) h) _ (option_passes c again a (attached_value rest) h) _ (option_taken a (attached_value rest) h)
+      (both_taken (react_fault c again a [] h) (kinds (reacted c a [] h)) (react_passes c again a [] h) (passes (reacted c a [] h)) (react_taken a [] h) (after (reacted c a [] h))) e
 
   bundle_step_taken : (x : Option ℕ) (flags : Text) (skip : ℕ) (h : Held) (kinds : Text → ℕ → Held → Kinds) (passes : Text → ℕ → Held → Bool)
       → ((f : Text) (s : ℕ) (g : Held) → kinds f s g ≡ [] → passes f s g ≡ true)
@@ -159,76 +158,55 @@ module _ (c : List Rule) (again : Bool) where
 
   flag_word_taken : (o : Option (Text × Option Text)) (word : Text) (h : Held) → flag_word_fault c again o word h ≡ [] → flag_word_passes c again o word h ≡ true
   flag_word_taken (Some p) word h e = long_taken (arg_by_long c p.0) p.1 h e
-  flag_word_taken None word h e = go (short_of word) e
-    where
-      go : (o : Option Text) → option_map_or (λ flags. bundle_fault c again flags h) o [] ≡ [] → option_map_or (λ flags. bundle_passes c again flags h) o true ≡ true
-      go None e = refl
-      go (Some flags) e = flags_taken (length flags) flags h.skip (record h { skip = 0 }) e
+  flag_word_taken None word h e =
+      map_taken (λ flags. bundle_fault c again flags h) (λ flags. bundle_passes c again flags h) [] true
+      (λ flags. flags_taken (length flags) flags h.skip (record h { skip = 0 })) (λ none. refl) (short_of word) e
 
   positional_taken : (a : Rule) (h : Held) → positional_fault c again a h ≡ [] → positional_passes c again a h ≡ true
-  positional_taken a h e = go (is_pending a h.pending && takes_several a) e
-    where
-      go : (b : Bool) → (if b then [] else settle_fault c again h) ≡ [] → (b || settle_passes c again h) ≡ true
-      go true e = refl
-      go false e = settle_taken h e
+  positional_taken a h e = or_taken (is_pending a h.pending && takes_several a) (settle_fault c again h) (settle_passes c again h) (settle_taken h) e
 
 -- ---- the walk
 
 stray_refused : (s : Shape) → stray_fault s ≡ [] → ⊥
-stray_refused s e = go s.is_leaf e
-  where
-    go : (b : Bool) → (if b then kind.UnknownArgument ∷ [] else kind.UnknownArgument ∷ kind.InvalidSubcommand ∷ []) ≡ [] → ⊥
-    go true e = cc
-    go false e = cc
+stray_refused s e = let rest = not_met s.is_leaf kind.UnknownArgument (kind.UnknownArgument ∷ kind.InvalidSubcommand ∷ []) e in cc
 
 module _ (s : Shape) where
   other_taken : (o : Option Text) (word : Text) (h : Held) → other_fault s o word h ≡ [] → other_passes s o word h ≡ true
-  other_taken (Some name) word h e = go (bytes_eq name (codes "help")) s.disable_help_subcommand e
-    where
-      go : (b d : Bool) → (if b && not d then kind.DisplayHelp ∷ kind.InvalidSubcommand ∷ [] else []) ≡ [] → (not b || d) ≡ true
-      go true true e = refl
-      go true false e = cc
-      go false d e = refl
-  other_taken None word h e = go (bytes_eq word (45 ∷ 45 ∷ [])) e
-    where
-      go : (b : Bool) → (if b then [] else flag_word_fault s.rules s.args_override_self (long_of word) word h) ≡ []
-          → (b || flag_word_passes s.rules s.args_override_self (long_of word) word h) ≡ true
-      go true e = refl
-      go false e = flag_word_taken s.rules s.args_override_self (long_of word) word h e
+  other_taken (Some name) word h e = spared (bytes_eq name (codes "help")) s.disable_help_subcommand kind.DisplayHelp (kind.InvalidSubcommand ∷ []) e
+  other_taken None word h e =
+      or_taken (bytes_eq word (45 ∷ 45 ∷ [])) (flag_word_fault s.rules s.args_override_self (long_of word) word h) (flag_word_passes s.rules s.args_override_self (long_of word) word h)
+      (flag_word_taken s.rules s.args_override_self (long_of word) word h) e
 
   step_taken : (position : ℕ) (h : Held) (x : Step) → step_fault s position h x ≡ [] → step_passes s position h x ≡ true
   step_taken position h (next waiting) e = refl
   step_taken position h (trailing p) e = refl
   step_taken position h (subcommand name) e = refl
-  step_taken position h value e = go (arg_by_index s.rules position) e
-    where
-      go : (o : Option Rule) → option_map_or (λ a. positional_fault s.rules s.args_override_self a h) o (stray_fault s) ≡ []
-          → option_map_or (λ a. positional_passes s.rules s.args_override_self a h) o false ≡ true
-      go None e = absurd (stray_refused s e)
-      go (Some a) e = positional_taken s.rules s.args_override_self a h e
+  step_taken position h value e =
+      map_taken (λ a. positional_fault s.rules s.args_override_self a h) (λ a. positional_passes s.rules s.args_override_self a h) (stray_fault s) false
+      (λ a. positional_taken s.rules s.args_override_self a h) (λ none. absurd (stray_refused s none)) (arg_by_index s.rules position) e
 
   word_taken : (names : Names) (is_trailing : Bool) (waiting : Waiting) (word : Text) (h : Held)
       → word_fault s names is_trailing waiting word h ≡ [] → word_passes s names is_trailing waiting word h ≡ true
-  word_taken names true waiting word h e = refl
-  word_taken names false waiting word h e = other_taken (subcommand_met names waiting word) word h e
+  word_taken names is_trailing waiting word h e =
+      let met = subcommand_met names waiting word in
+      or_taken is_trailing (other_fault s met word h) (other_passes s met word h) (other_taken met word h) e
 
   turn_taken : (names : Names) (w : Walk) (word : Text) → turn_fault s names w word ≡ [] → turn_passes s names w word ≡ true
-  turn_taken names w word e = go (is_some w.stopped) (word_met s.rules names w.is_trailing w.waiting w.position word w.held) e
+  turn_taken names w word e = by_known (word_met s.rules names w.is_trailing w.waiting w.position word w.held) e
     where
-      go : (b : Bool) (known : Held × Step)
-          → (if b then [] else or_else (word_fault s names w.is_trailing w.waiting word w.held) (step_fault s w.position known.0 known.1)) ≡ []
-          → (b || (word_passes s names w.is_trailing w.waiting word w.held && step_passes s w.position known.0 known.1)) ≡ true
-      go true known e = refl
-      go false known e =
-          let parts = neither (word_fault s names w.is_trailing w.waiting word w.held) _ e in
-          and_from _ _ (word_taken names w.is_trailing w.waiting word w.held parts.0) (step_taken w.position known.0 known.1 parts.1)
+      by_known : (known : Held × Step)
+          → (if is_some w.stopped then [] else or_else (word_fault s names w.is_trailing w.waiting word w.held) (step_fault s w.position known.0 known.1)) ≡ []
+          → (is_some w.stopped || (word_passes s names w.is_trailing w.waiting word w.held && step_passes s w.position known.0 known.1)) ≡ true
+      by_known known e =
+          or_taken (is_some w.stopped) _ _ (both_taken (word_fault s names w.is_trailing w.waiting word w.held) (step_fault s w.position known.0 known.1) _ _
+          (word_taken names w.is_trailing w.waiting word w.held) (step_taken w.position known.0 known.1)) e
 
   walk_taken : (names : Names) (w : Walk) (words : List Text) → walk_fault s names w words ≡ [] → walk_passes s names w words ≡ true
   unfolding walk_fault walk_passes
   walk_taken names w [] e = refl
   walk_taken names w (word ∷ rest) e =
-      let parts = neither (turn_fault s names w word) _ e in
-      and_from _ _ (turn_taken names w word parts.0) (walk_taken names (walked s.rules names w word) rest parts.1)
+      both_taken (turn_fault s names w word) (walk_fault s names (walked s.rules names w word) rest) (turn_passes s names w word) (walk_passes s names (walked s.rules names w word) rest)
+      (turn_taken names w word) (walk_taken names (walked s.rules names w word) rest) e
 
   -- where each default passes and nothing more is asked of the matches
   level_taken : (h : Held) (words : List Text) → list_all default_passes s.rules ≡ true → ((rows : List Row) → is_valid s rows false ≡ true)

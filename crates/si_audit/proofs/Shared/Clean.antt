@@ -47,4 +47,17 @@ can_be_printed h a is = record {
 
 -- with the edges and the pivots of the history a judgement of it is its account
 pub account_is : (h : List Event) (j : Judgement) → IsJudgement h j → (edges : List Edge) → ListsEdges h (λ _. ⊤) edges → (pivots : List Pivot) → ArePivots h pivots → IsAccount h (account_with j edges pivots)
-account_is h j is edges edges_are pivots pivots_are = assumption
+account_is h j is edges edges_are pivots pivots_are = record {
+  events = is.counts.events;
+  committed = is.counts.committed;
+  aborted = is.counts.aborted;
+  unfinished = is.counts.unfinished;
+  bad_reads = is.bad_reads;
+  bad_writes = is.bad_writes;
+  unexplained = is.unexplained;
+  edges = edges_are;
+  pivots = pivots_are;
+  pass = is.pass;
+  serializable = is.serializable;
+  verdict = is.verdict;
+}

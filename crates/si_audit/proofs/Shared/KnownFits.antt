@@ -1,26 +1,17 @@
 -- The row of each transaction, and that its recorded start fits it where the row says so.
-use Rattle.std.proofs.Common.{◌≡◌, inl, inr, ℕ, ◌<◌, ◌≤◌, List, Some, false, length, get_or, slice_get, sym, subst, ◌∙◌}
+use Rattle.std.proofs.Common.{◌≡◌, ℕ, ◌<◌, ◌≤◌, List, Some, false, length, get_or, slice_get, sym, subst, ◌∙◌}
 use Rattle.std.proofs.lemmas.Bool.{false≢true}
 use Rattle.std.proofs.lemmas.Option.{get_or_from_slice_get, slice_get_within}
 use Rattle.sia_events.specs.declared.event.Event.{Event}
-use Rattle.sia_events.specs.declared.event.Event.TheVariants.{Write}
 use Rattle.sia_events.specs.Numbering.{txns_of}
 use Rattle.sia_events.specs.Refusals.{IsWellFormed}
 use Rattle.sia_events.specs.Transactions.{HasEvent}
-use Rattle.sia_events.proofs.Shared.TransactionDecisions.{place_within}
 use Rattle.sia_index.proofs.Shared.LogNames.{numbered_has_event}
 use Rattle.si_audit.specs.Bounds.{EachTxn, IsKnownOf}
-use Rattle.si_audit.specs.Snapshots.{AccessesAt, Fits, FitsStart, IsSnapshot}
+use Rattle.si_audit.specs.Snapshots.{FitsStart, IsSnapshot}
 use Rattle.si_audit.specs.declared.snapshots.Bounds.{Bounds}
+pub use Rattle.si_audit.proofs.Shared.SnapshotBounds.{access_within, idle_fits}
 use Rattle.si_audit.proofs.Shared.SnapshotStarts.{fits_start, start_before}
-
--- a read or write is an event of the history
-pub access_within : (h : List Event) (t p : ℕ) → AccessesAt h t p → (0 < p) × (p ≤ length h)
-access_within h t p access = elim access.1 [ inl wrote ↦ place_within h p (Write t access.0) wrote | inr saw ↦ place_within h p saw.1.0 saw.1.1 ]
-
--- what neither reads nor writes fits every snapshot
-pub idle_fits : (h : List Event) (t n : ℕ) → ((p : ℕ) → ¬ AccessesAt h t p) → Fits h t n
-idle_fits h t n none = record { reads = λ p k v saw. absurd (none p (k, inr (v, saw))); writes = λ k u c d own other less. absurd (none own.0.0 (k, inl own.0.1)) }
 
 -- each transaction's row is there
 pub row_known : (h : List Event) (all : List Bounds) → EachTxn (IsKnownOf h) h all → (i t : ℕ) → slice_get (txns_of h) i ≡ Some t → (d : Bounds) → (i < length all) × HasEvent h t × IsKnownOf h t (get_or all i d)

@@ -1,7 +1,8 @@
 -- A snapshot fits a transaction exactly if it is within bounds that the reads and writes of the transaction give.
-use Rattle.std.proofs.Common.{◌≡◌, ◌≢◌, ◌⊎◌, inl, inr, ℕ, ◌<◌, ◌≤◌, List, refl, subst, arith, ◌↔◌}
+use Rattle.std.proofs.Common.{◌≡◌, ◌≢◌, ◌⊎◌, inl, inr, ℕ, ◌<◌, ◌≤◌, List, length, refl, subst, arith, ◌↔◌}
 use Rattle.std.proofs.lemmas.Bool.{cases_eq, cases_lt}
 use Rattle.sia_events.specs.declared.event.Event.{Event}
+use Rattle.sia_events.specs.declared.event.Event.TheVariants.{Write}
 use Rattle.sia_events.specs.NarrowDependencies.{CommitsVersion}
 use Rattle.sia_events.specs.Reads.{SawAt}
 use Rattle.sia_events.specs.Refusals.{IsWellFormed}
@@ -9,10 +10,18 @@ use Rattle.sia_events.specs.Transactions.{CommitsAt, WroteBefore}
 use Rattle.sia_events.proofs.OfLaws.Looks.{commits_above}
 use Rattle.sia_events.proofs.OfLaws.Seen.{actor_is_txn, saw_written}
 use Rattle.sia_events.proofs.Shared.Decisions.{at_most}
-use Rattle.sia_events.proofs.Shared.TransactionDecisions.{committed_or_not, wrote_before_or_not}
+use Rattle.sia_events.proofs.Shared.TransactionDecisions.{committed_or_not, place_within, wrote_before_or_not}
 use Rattle.sia_events.proofs.Writing.WellFormed.{one_commit}
 use Rattle.sia_parts.proofs.Auditing.AsOf.{one_as_of, zero_commits_not}
-use Rattle.si_audit.specs.Snapshots.{Bars, Fits, IsAsked, IsDueFrom, IsInNone, IsNewestIn, ReadAsks}
+use Rattle.si_audit.specs.Snapshots.{AccessesAt, Bars, Fits, IsAsked, IsDueFrom, IsInNone, IsNewestIn, ReadAsks}
+
+-- a read or write is an event of the history
+pub access_within : (h : List Event) (t p : ℕ) → AccessesAt h t p → (0 < p) × (p ≤ length h)
+access_within h t p access = elim access.1 [ inl wrote ↦ place_within h p (Write t access.0) wrote | inr saw ↦ place_within h p saw.1.0 saw.1.1 ]
+
+-- what neither reads nor writes fits every snapshot
+pub idle_fits : (h : List Event) (t n : ℕ) → ((p : ℕ) → ¬ AccessesAt h t p) → Fits h t n
+idle_fits h t n none = record { reads = λ p k v saw. absurd (none p (k, inr (v, saw))); writes = λ k u c d own other less. absurd (none own.0.0 (k, inl own.0.1)) }
 
 -- each read is of some snapshot, each commit that is asked for is in this one, and none that is barred
 pub record IsBounded (h : List Event) (t n : ℕ) : Type 0 where

@@ -1,6 +1,6 @@
 -- The start of a transaction fits it exactly if none of its reads is bad and none of its writes.
 use Rattle.std.proofs.Common.{◌≡◌, ◌⊎◌, inl, inr, ℕ, ◌<◌, ◌≤◌, List, refl, sym, subst, arith}
-use Rattle.std.specs.Prelude.{◌↔◌, Contains, ⊤}
+use Rattle.std.specs.Prelude.{◌↔◌}
 use Rattle.std.proofs.lemmas.Bool.{cases_eq, cases_lt}
 use Rattle.sia_events.specs.declared.event.Event.{Event}
 use Rattle.sia_events.specs.declared.event.Event.TheVariants.{Write}
@@ -10,24 +10,12 @@ use Rattle.sia_events.specs.Refusals.{IsWellFormed}
 use Rattle.sia_events.specs.Transactions.{ActsAt, HasEvent, StartsAt, WritesAt}
 use Rattle.sia_events.proofs.OfLaws.Due.{has_due, one_due}
 use Rattle.sia_events.proofs.OfLaws.StartsBelow.{start_below}
-use Rattle.sia_events.proofs.Shared.Decisions.{Decided, at_most}
+use Rattle.sia_events.proofs.Shared.Decisions.{at_most}
 use Rattle.sia_events.proofs.Shared.Starts.{one_start}
 use Rattle.sia_events.proofs.Shared.TransactionDecisions.{has_start}
 use Rattle.sia_events.proofs.Writing.WellFormed.{one_commit}
-use Rattle.sia_parts.specs.Findings.{ListsBadReads, ListsBadWrites}
-use Rattle.sia_parts.specs.declared.finding.BadRead.{BadRead}
-use Rattle.sia_parts.specs.declared.finding.BadWrite.{BadWrite}
-use Rattle.sia_graph.proofs.Shared.Deciding.{element_decided}
-use Rattle.sia_graph.proofs.Shared.Positions.{contains_stands, stands_contains}
-use Rattle.si_audit.proofs.OfLaws.FindingsExist.{bad_reads_exist, bad_writes_exist}
+pub use Rattle.si_audit.proofs.Shared.SnapshotsExist.{fits_start_or_not}
 use Rattle.si_audit.specs.Snapshots.{AccessesAt, Fits, FitsStart, IsDueFrom}
-
--- a member of a list that has P, or none
-member_or_none : {A : Type 0} (P : A → Type 0) → ((x : A) → Decided (P x)) → (xs : List A) → ((x : A) × Contains xs x × P x) ⊎ ((x : A) → Contains xs x → ¬ P x)
-member_or_none P decide xs = elim (element_decided P decide xs) [
-  | inl w ↦ inl (w.1, stands_contains xs w.1 (w.0, w.2), w.3)
-  | inr none ↦ inr (λ x c p. let s = contains_stands xs x c in none (s.0, x, s.1, p))
-]
 
 -- no read of t is bad, and no write
 abbrev pub IsBlameless : List Event → ℕ → Type 0
@@ -112,34 +100,3 @@ module _ (h : List Event) (wf : IsWellFormed h) (t : ℕ) where
     (λ fits. (starts_fit fits.0 fits.1).0 fits.2),
     (λ none. let start = has_start h t has in (start.0, start.1, (starts_fit start.0 start.1).1 none)),
   )
-
-  -- a start that doesn't fit has a bad read or a bad write
-  abbrev pub HasMisfit : Type 0
-  HasMisfit = ((p : ℕ) × (k : ℕ) × (saw : ℕ) × (due : ℕ) × IsBadRead h p t k saw due) ⊎ ((k : ℕ) × (first : ℕ) × IsBadWrite h k first t)
-
-  blameless_or_misfit : IsBlameless h t ⊎ HasMisfit
-  blameless_or_misfit = of_lists (bad_reads_exist h wf) (bad_writes_exist h wf)
-    where
-      of_lists : (xs : List BadRead) × ListsBadReads h (λ _. ⊤) xs → (ys : List BadWrite) × ListsBadWrites h (λ _. ⊤) ys → IsBlameless h t ⊎ HasMisfit
-      of_lists reads writes = elim (member_or_none (λ (b : BadRead). b.txn ≡ t) (λ b. cases_eq b.txn t) reads.0) [
-        | inl found ↦
-            let b : BadRead = found.0 in
-            inr (inl (b.place, b.key, b.saw, b.due, subst (λ u. IsBadRead h b.place u b.key b.saw b.due) found.2 ((reads.1.each b).0 found.1).0))
-        | inr no_read ↦ elim (member_or_none (λ (b : BadWrite). b.second ≡ t) (λ b. cases_eq b.second t) writes.0) [
-          | inl found ↦ let b : BadWrite = found.0 in inr (inr (b.key, b.first, subst (λ u. IsBadWrite h b.key b.first u) found.2 ((writes.1.each b).0 found.1).0))
-          | inr no_write ↦ inl (
-            (λ p k saw due bad. let b : BadRead = record { place = p; txn = t; key = k; saw = saw; due = due } in no_read b ((reads.1.each b).1 (bad, tt)) refl),
-            (λ k first bad. let b : BadWrite = record { key = k; first = first; second = t } in no_write b ((writes.1.each b).1 (bad, tt)) refl),
-          )
-        ]
-      ]
-
-  pub misfit_found : HasEvent h t → ¬ FitsStart h t → HasMisfit
-  misfit_found has misfit = elim blameless_or_misfit [ inl none ↦ absurd (misfit ((fits_start has).1 none)) | inr found ↦ found ]
-
-  pub fits_start_or_not : HasEvent h t → Decided (FitsStart h t)
-  fits_start_or_not has = elim blameless_or_misfit [ inl none ↦ inl ((fits_start has).1 none) | inr found ↦ inr (λ fits. refuted ((fits_start has).0 fits) found) ]
-    where
-      refuted : IsBlameless h t → ¬ HasMisfit
-      refuted none (inl bad) = none.0 bad.0 bad.1 bad.2 bad.3 bad.4
-      refuted none (inr bad) = none.1 bad.0 bad.1 bad.2

@@ -11,7 +11,7 @@ use Rattle.sia_parts.specs.Telling.{event_words}
 use Rattle.si_audit.specs.Reasons.{reason}
 use Rattle.si_audit.specs.SnapshotLines.{IsNeeded, TellsExcluded, TellsNone, TellsSnapshot, bare_words, bound_words}
 use Rattle.si_audit.specs.Snapshots.{Bars, IsFirst, IsInNone, ReadAsks, WriteAsks, AccessesAt, Fits, FitsStart, IsAsked, IsSnapshot}
-use Rattle.si_audit.proofs.Shared.Told.{IsOne, one_all, Told, all_told}
+use Rattle.si_audit.proofs.Shared.Telling.{IsOne, Told, all_told, one_all}
 use Rattle.std.proofs.lemmas.Bool.{cases_eq, cases_lt}
 use Rattle.sia_events.specs.declared.event.Event.TheVariants.{Commit, Write}
 use Rattle.sia_events.specs.NarrowDependencies.{IsAsOf}
@@ -26,8 +26,7 @@ use Rattle.sia_events.proofs.Writing.WellFormed.{few_events}
 use Rattle.sia_graph.proofs.Shared.Deciding.{either_decided, le_decided, not_decided, three_decided}
 use Rattle.si_audit.proofs.OfLaws.FindingsExist.{seen_small, top, top_is, undue_or_not, wrote_small}
 use Rattle.si_audit.proofs.OfLaws.VerdictExists.{txns_listed}
-use Rattle.si_audit.proofs.Shared.KnownFits.{access_within, idle_fits}
-use Rattle.si_audit.proofs.Shared.SnapshotBounds.{fits_bounds}
+use Rattle.si_audit.proofs.Shared.SnapshotBounds.{access_within, fits_bounds, idle_fits}
 
 -- the first place and key of what has P are one
 one_first : (P : ℕ → ℕ → Type 0) (p k q j : ℕ) → IsFirst P p k → IsFirst P q j → (p ≡ q) × (k ≡ j)
@@ -317,16 +316,19 @@ module _ (h : List Event) (wf : IsWellFormed h) (t : ℕ) where
     ]
   ]
 
-  snapshot_told : HasEvent h t → Told (TellsSnapshot h t)
-  snapshot_told has =
+  pub fits_start_or_not : HasEvent h t → Decided (FitsStart h t)
+  fits_start_or_not has =
       let start = has_start h t has in
-      elim (fits_or_not start.0) [
-        | inl fits ↦ ([], inl ((start.0, start.1, fits), refl))
-        | inr misfit ↦ elim first_access [
-          | inl first ↦ misfit_told (λ x. misfit (subst (Fits h t) (one_start h t x.0 start.0 x.1 start.1) x.2)) first.0 first.1
-          | inr none ↦ absurd (misfit (idle_fits h t start.0 none))
-        ]
-      ]
+      elim (fits_or_not start.0) [ inl fits ↦ inl (start.0, start.1, fits) | inr misfit ↦ inr (λ x. misfit (subst (Fits h t) (one_start h t x.0 start.0 x.1 start.1) x.2)) ]
+
+  snapshot_told : HasEvent h t → Told (TellsSnapshot h t)
+  snapshot_told has = elim (fits_start_or_not has) [
+    | inl fits ↦ ([], inl (fits, refl))
+    | inr misfit ↦ elim first_access [
+      | inl first ↦ misfit_told misfit first.0 first.1
+      | inr none ↦ let start = has_start h t has in absurd (misfit (start.0, start.1, idle_fits h t start.0 none))
+    ]
+  ]
 
 pub none_told : (h : List Event) → IsWellFormed h → (t : ℕ) → HasEvent h t → ((n : ℕ) → ¬ IsSnapshot h t n) → Told (TellsNone h t)
 none_told h wf t has never = none_has_told h wf t never

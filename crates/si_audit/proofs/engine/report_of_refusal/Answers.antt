@@ -2,7 +2,7 @@ use Rattle.std.proofs.Common.{◌≡◌, ap, sym, ◌∙◌, List, ℕ, ◌++◌
 use Rattle.std.specs.Global.{Vec}
 use Rattle.si_audit.specs.Lines.{refusal_line}
 use Rattle.si_audit.specs.Report.{TellsRefusal}
-use Rattle.si_audit.proofs.OfEngine.ToldByForms.{told_of_explained, told_of_others}
+use Rattle.si_audit.proofs.OfEngine.OfHistory.{told_of_explained, told_of_others}
 use Rattle.si_audit.proofs.engine.report_of_refusal.Goals as goal
 use Rattle.si_audit.proofs.engine.report_of_refusal.Goals.{in-Explained+in_ok-push_place, in_default}
 

@@ -1,6 +1,6 @@
 use Rattle.std.proofs.Common.{◌≡◌, ◌+◌, length, ◌∙◌, take_all, arith}
 use Rattle.si_audit.specs.Explained.{edges_round}
-use Rattle.si_audit.proofs.OfReasons.Rounds.{as_many, edge_pushed, leads_on, leads_home}
+use Rattle.si_audit.proofs.OfReasons.Rounds.{as_many, edge_pushed, leads_home, leads_on}
 use Rattle.si_audit.proofs.explain.edges_of.Goals as goal
 use Rattle.si_audit.proofs.explain.edges_of.Goals.{then-i-steps, else-i-steps}
 

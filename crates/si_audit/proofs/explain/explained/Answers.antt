@@ -3,7 +3,7 @@ use Rattle.std.proofs.lemmas.Iterator.{YieldsList-from_map, YieldsList-from_slic
 use Rattle.std.proofs.lemmas.Iterator.Consumers.{YieldsList-at}
 use Rattle.sia_parts.specs.declared.finding.BadWrite.{BadWrite}
 use Rattle.sia_parts.specs.Acts.{HasActs}
-use Rattle.si_audit.proofs.OfReasons.Readers.{all_of_map}
+use Rattle.si_audit.proofs.OfReasons.Rounds.{all_of_map}
 use Rattle.si_audit.specs.Account.{account_with}
 use Rattle.si_audit.specs.Bounds.{EachTxn, IsKnownOf}
 use Rattle.si_audit.specs.Explained.{IsExplained}

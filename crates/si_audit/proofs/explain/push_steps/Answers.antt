@@ -4,7 +4,7 @@ use Rattle.std.proofs.lemmas.Iterator.{YieldsList-from_map, YieldsList-from_slic
 use Rattle.std.proofs.lemmas.Iterator.Consumers.{YieldsList-at}
 use Rattle.sia_parts.specs.Acts.{HasActs}
 use Rattle.sia_parts.specs.Sightings.{reader_of}
-use Rattle.si_audit.proofs.OfReasons.Readers.{all_of_map}
+use Rattle.si_audit.proofs.OfReasons.Rounds.{all_of_map}
 use Rattle.sia_events.specs.Text.{numeral}
 use Rattle.sia_parts.specs.declared.finding.Edge.{Edge}
 use Rattle.sia_parts.specs.declared.finding.Kind.TheVariants.{Ww}

@@ -3,7 +3,7 @@ use Rattle.std.specs.List.{join_with_byte}
 use Rattle.std.proofs.lemmas.Result.{on_ok_weaker}
 use Rattle.si_audit.specs.Spaced.{spaced, words_of}
 use Rattle.sia_events.proofs.Writing.Writing.{when_ok}
-use Rattle.si_audit.proofs.OfReport.SpacedWords.{join_spaced}
+use Rattle.si_audit.proofs.OfReport.Chains.{join_spaced}
 use Rattle.si_audit.proofs.report.push_line.Goals as goal
 
 -- one step after another, from the last back to the first

@@ -6,9 +6,8 @@ use Rattle.sia_graph.specs.declared.judgement.Verdict.{Verdict}
 use Rattle.sia_graph.specs.declared.judgement.Verdict.TheVariants.{Cycle}
 use Rattle.si_audit.specs.Lines.{home_word, step_words, verdict_line}
 use Rattle.si_audit.specs.Spaced.{spaced}
-use Rattle.si_audit.proofs.OfReport.Chains.{four_written, next_line}
+use Rattle.si_audit.proofs.OfReport.Chains.{cycle_bytes, four_written, next_line}
 use Rattle.sia_events.proofs.Writing.Writing.{when_ok}
-use Rattle.si_audit.proofs.OfReport.SpacedWords.{cycle_bytes}
 use Rattle.si_audit.proofs.report.push_verdict.Goals as goal
 use Rattle.si_audit.proofs.report.push_verdict.Goals.{in-Some+in_ok-push_words-in-Cycle-2, in_default}
 

@@ -1,4 +1,4 @@
-use Rattle.si_audit.proofs.OfReport.SpacedWords.{next_words}
+use Rattle.si_audit.proofs.OfReport.Chains.{next_words}
 use Rattle.si_audit.proofs.report.push_words.Goals as goal
 
 pub loop-some-preserved : goal.loop-some-preserved

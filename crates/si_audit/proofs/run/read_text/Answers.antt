@@ -5,7 +5,7 @@ use Rattle.std.proofs.lemmas.Grind.{common_steps}
 use Rattle.sia_events.specs.Limits.{Limits}
 use Rattle.si_audit.specs.declared.devices.Failed.{Failed}
 use Rattle.si_audit.specs.Devices.{reads_after}
-use Rattle.si_audit.proofs.OfRun.ReadSoFar.{at_the_end, past_the_limit}
+use Rattle.si_audit.proofs.OfRun.OfSource.{at_the_end, past_the_limit}
 use Rattle.si_audit.proofs.run.read_text.Goals as goal
 use Rattle.si_audit.proofs.run.read_text.Goals.{else-reading-test, then-reading-test+in-Ok+then-n-eq0}
 

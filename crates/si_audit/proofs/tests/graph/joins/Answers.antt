@@ -1,4 +1,5 @@
-use Rattle.std.proofs.Common.{◌≢◌, refl, arith, Contains}
+use Rattle.std.proofs.Common.{◌≢◌, refl, arith}
+use Rattle.std.specs.Prelude.{Contains}
 use Rattle.sia_parts.specs.declared.finding.Edge.{Edge}
 use Rattle.si_audit.proofs.OfTests.InOrder.{all_more}
 use Rattle.si_audit.proofs.tests.graph.joins.Goals as goal

@@ -1,4 +1,5 @@
-use Rattle.std.proofs.Common.{◌≢◌, ℕ, ◌<◌, get_or, Contains}
+use Rattle.std.proofs.Common.{◌≢◌, ℕ, ◌<◌, get_or}
+use Rattle.std.specs.Prelude.{Contains}
 use Rattle.sia_parts.specs.declared.finding.Edge.{Edge}
 use Rattle.si_audit.proofs.tests.graph.joins.Given as goal
 

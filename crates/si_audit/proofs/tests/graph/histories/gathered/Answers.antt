@@ -9,6 +9,9 @@ use Rattle.sia_parts.specs.Parts.{IsInPart}
 use Rattle.si_audit.proofs.OfTests.Uncut.{uncut, whole}
 use Rattle.si_audit.proofs.tests.graph.histories.gathered.Goals as goal
 
+pub of-requires : goal.of-requires
+of-requires c = ([], uncut)
+
 pub find_in_part-requires-clause-places : goal.find_in_part-requires-clause-places
 find_in_part-requires-clause-places c = c.of_part.ensures c.args.log.now (whole ∷ []) whole c.in_ok-reads.ensures refl
 

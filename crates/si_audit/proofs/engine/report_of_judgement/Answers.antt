@@ -4,10 +4,10 @@ use Rattle.si_audit.specs.declared.options.Form.{Form}
 use Rattle.si_audit.specs.declared.options.Level.{Level}
 use Rattle.si_audit.specs.Engine.{HasText, IsOutcomeOf, IsReportOf}
 use Rattle.si_audit.proofs.Shared.Results.{ok_map}
-use Rattle.si_audit.proofs.engine.report_of_log.Goals as goal
+use Rattle.si_audit.proofs.engine.report_of_judgement.Goals as goal
 
 pub returns : goal.returns
-returns g c =
+returns c =
     let h = c.args.log in
     let ends = subst (λ (level : Level). IsOutcomeOf level h c.in_ok-outcome.outcome) c.level.ensures c.in_ok-outcome.ensures in record {
       report = subst (λ (form : Form). IfOk c.report_in.result (λ a. (bytes : List ℕ) × IsReportOf form h bytes × HasText a bytes)) c.form.ensures c.report_in.ensures.report;
