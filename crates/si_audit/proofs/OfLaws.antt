@@ -7,9 +7,6 @@ pub mod OneExplanation
 pub mod OneReport
 pub mod OutcomesTold
 pub mod PlainTexts
-pub mod ReasonLines
 pub mod ReportExists
 pub mod ReportLines
-pub mod TextLines
-pub mod TokenExists
 pub mod VerdictExists

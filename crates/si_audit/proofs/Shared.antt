@@ -4,8 +4,6 @@ pub mod KnownSnapshots
 pub mod Marking
 pub mod KnownRows
 pub mod EachKnown
-pub mod OnSheets
-pub mod Owed
 pub mod Pushed
 pub mod RangeSights
 pub mod Results

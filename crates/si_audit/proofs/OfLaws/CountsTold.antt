@@ -14,9 +14,7 @@ use Rattle.sia_parts.specs.declared.finding.BadWrite.{BadWrite}
 use Rattle.sia_parts.proofs.Auditing.Members.{contains_first, contains_later}
 use Rattle.sia_graph.proofs.Shared.Deciding.{not_decided}
 use Rattle.si_audit.specs.Counts.{HasName, IsLost, SoManyHave, TellsCounts, all_counts, count_words, counts_line}
-use Rattle.si_audit.proofs.OfLaws.ReasonLines.{keep, reason_goes}
-use Rattle.si_audit.proofs.OfLaws.ReportLines.{AreUnbroken, IsUnbroken, all_both, glued, numeral_unbroken}
-use Rattle.si_audit.proofs.OfLaws.TextLines.{Leaves, leaves_nothing, unbroken_both}
+use Rattle.si_audit.proofs.OfLaws.ReportLines.{AreUnbroken, IsUnbroken, Leaves, all_both, glued, keep, leaves_nothing, numeral_unbroken, reason_goes, unbroken_both}
 use Rattle.si_audit.proofs.OfReasons.Counting.{same_anomaly}
 
 module _ {A : Type 0} (P : A → Type 0) where

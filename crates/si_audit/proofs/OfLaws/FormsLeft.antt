@@ -25,9 +25,7 @@ use Rattle.si_audit.specs.Report.{IsReport, TellsAccount, TellsRefusal}
 use Rattle.si_audit.specs.SnapshotLines.{TellsSnapshot}
 use Rattle.si_audit.proofs.OfLaws.CountsTold.{counts_go}
 use Rattle.si_audit.proofs.OfLaws.OneReport.{told_of_one}
-use Rattle.si_audit.proofs.OfLaws.ReasonLines.{bad_read_goes, bad_write_goes, class_goes, keep, snapshot_goes, step_goes, told_in_explained, unexplained_goes}
-use Rattle.si_audit.proofs.OfLaws.ReportLines.{IsUnbroken, bad_read_is, bad_write_is, edge_unbroken, events_is, glued, isolation_is, long_is, numeral_unbroken, refusal_is, report_leaves, serializable_is, ssi_is, stays, unexplained_is, verdict_is, words_line}
-use Rattle.si_audit.proofs.OfLaws.TextLines.{IsLine, Leaves, leaves_both, leaves_line, leaves_nothing, unbroken_both, what_is_left}
+use Rattle.si_audit.proofs.OfLaws.ReportLines.{IsLine, IsUnbroken, Leaves, bad_read_goes, bad_read_is, bad_write_goes, bad_write_is, class_goes, edge_unbroken, events_is, glued, isolation_is, keep, leaves_both, leaves_line, leaves_nothing, long_is, numeral_unbroken, refusal_is, report_leaves, serializable_is, snapshot_goes, ssi_is, stays, step_goes, told_in_explained, unbroken_both, unexplained_goes, unexplained_is, verdict_is, what_is_left, words_line}
 
 -- what is told of all, where it is known what is left of what is told of each
 module _ (keep : List ℕ → Bool) where

@@ -29,8 +29,7 @@ use Rattle.si_audit.specs.Lines.{is_empty, refusal_line, isolation_line, report_
 use Rattle.si_audit.specs.Outcomes.{IsOutcome, Meets}
 use Rattle.si_audit.specs.Report.{TellsAccount, TellsRefusal}
 use Rattle.sia_parts.proofs.Auditing.Members.{contains_first, contains_none, first_or_later}
-use Rattle.si_audit.proofs.OfLaws.ReportLines.{isolation_is, long_is, refusal_is, report_leaves, serializable_is, ssi_is, stays}
-use Rattle.si_audit.proofs.OfLaws.TextLines.{IsLine, Leaves, lines_again, what_is_left}
+use Rattle.si_audit.proofs.OfLaws.ReportLines.{IsLine, Leaves, isolation_is, lines_again, long_is, refusal_is, report_leaves, serializable_is, ssi_is, stays, what_is_left}
 use Rattle.si_audit.proofs.OfLaws.FormsLeft.{account_leaves, refused_leaves, told_in, verdict_begins}
 
 -- a line that a filter keeps is in what it leaves

@@ -1,9 +1,12 @@
--- The lines of a report hold no LF but at their ends, and what a filter leaves of them.
-use Rattle.std.proofs.Common.{◌≡◌, ◌==◌, ◌≤◌, ◌&&◌, ℕ, Bool, true, false, not, cond, List, [], ◌∷◌, ◌++◌, map, flat_map, codes, refl, arith}
-use Rattle.std.specs.List.{AllByRecursion, join_with_byte}
-use Rattle.std.proofs.lemmas.Bool.{and_from, not_from_false}
+-- The lines of a report hold no LF but at their ends, those of its reasons neither, and what a filter leaves of them.
+use Rattle.std.proofs.Common.{◌≡◌, ◌==◌, ℕ, Bool, true, false, not, cond, ◌&&◌, List, [], ◌∷◌, ◌++◌, flat_map, filter, refl, ap, sym, ◌∙◌, append_assoc, append-nil, ◌≤◌, map, codes, arith, inl, inr, Option, Some, None, subst}
+use Rattle.std.specs.List.{AllByRecursion, concat, join_with_byte}
+use Rattle.std.proofs.lemmas.Bool.{and_from, and_parts, not_from_false, or_parts}
+use Rattle.std.proofs.lemmas.List.Elements.{filter-append}
+use Rattle.std.proofs.lemmas.List.Folds.{concat-append}
+use Rattle.si_audit.specs.Laws.{before_lines, lines_of, onto_line, begins}
 use Rattle.std.proofs.lemmas.Bool.Decides.{nat_tests}
-use Rattle.sia_events.specs.Text.{numeral}
+use Rattle.sia_events.specs.Text.{numeral, spell}
 use Rattle.sia_events.specs.declared.fault.Reason.{Reason}
 use Rattle.sia_events.specs.declared.fault.Reason.TheVariants.{TooManyEvents, BadEvent, BadNumber, AlreadyEnded, AlreadyBegun, EmptyRange, BadList, NotWritten, BadStart}
 use Rattle.sia_events.specs.declared.fault.TextFault.TheVariants.{TextTooLong, Refused}
@@ -20,9 +23,106 @@ use Rattle.sia_graph.specs.declared.judgement.Verdict.{Verdict}
 use Rattle.sia_graph.specs.declared.judgement.Verdict.TheVariants.{Order, Cycle}
 use Rattle.si_audit.specs.Account.{Account}
 use Rattle.si_audit.specs.declared.options.Form.{Form}
-use Rattle.si_audit.specs.Laws.{begins}
 use Rattle.si_audit.specs.Lines.{line, reason_words, refusal_line, kind_word, is_empty, bad_read_line, bad_write_line, unexplained_line, edge_line, first_words, pivot_line, edge_word, step_words, home_word, verdict_line, events_line, isolation_line, ssi_line, serializable_line, told, report_text}
-use Rattle.si_audit.proofs.OfLaws.TextLines.{IsLine, Leaves, is_unbroken, leaves_both, leaves_each, leaves_line, unbroken_both}
+use Rattle.sia_events.specs.declared.event.Anomaly.{Anomaly}
+use Rattle.sia_events.specs.declared.event.Anomaly.TheVariants.{OwnWriteMissed, AbortedRead, UncommittedRead, FutureRead, Phantom, StaleRead}
+use Rattle.sia_events.specs.declared.event.Event.{Event}
+use Rattle.sia_events.specs.Places.{at_place}
+use Rattle.sia_events.specs.Telling.{about, spell_about, told_about, listing}
+use Rattle.sia_events.proofs.Shared.Canonical.{HasNoSeparator, IsToken, spell_token}
+use Rattle.sia_parts.specs.Telling.{TellsUnless, TellsVersion, event_words, start_words}
+use Rattle.si_audit.specs.Reasons.{TellsBadRead, TellsBadWrite, TellsClass, TellsConflict, TellsEvents, TellsSight, TellsStep, TellsUnexplained, allowed_words, anomaly_words, forbidden_words, reason, untold_of}
+use Rattle.si_audit.specs.SnapshotLines.{TellsExcluded, TellsNone, TellsSnapshot, bare_words, bound_words, spell_bare}
+
+-- no byte is LF
+abbrev pub is_unbroken : List ℕ → Bool
+is_unbroken [] = true
+is_unbroken (c ∷ cs) = not (c == 10) && is_unbroken cs
+
+pub unbroken_both : (xs ys : List ℕ) → is_unbroken xs ≡ true → is_unbroken ys ≡ true → is_unbroken (xs ++ ys) ≡ true
+unbroken_both [] ys p q = q
+unbroken_both (x ∷ xs) ys p q = let parts = and_parts (not (x == 10)) (is_unbroken xs) p in and_from _ _ parts.0 (unbroken_both xs ys parts.1 q)
+
+-- one line, with its LF
+abbrev pub IsLine : List ℕ → Type 0
+IsLine l = (w : List ℕ) × (is_unbroken w ≡ true) × (l ≡ w ++ 10 ∷ [])
+
+abbrev pub AreLines : List (List ℕ) → Type 0
+AreLines ls = AllByRecursion IsLine ls
+
+pub lines_both : (ls ms : List (List ℕ)) → AreLines ls → AreLines ms → AreLines (ls ++ ms)
+lines_both [] ms p q = q
+lines_both (l ∷ ls) ms p q = (p.0, lines_both ls ms p.1 q)
+
+before_other : (c : ℕ) (ls : List (List ℕ)) → not (c == 10) ≡ true → before_lines c ls ≡ onto_line c ls
+before_other c ls other = by_test (c == 10) other
+  where
+    by_test : (b : Bool) → not b ≡ true → cond b ((c ∷ []) ∷ ls) (onto_line c ls) ≡ onto_line c ls
+    by_test true e = absurd cc
+    by_test false e = refl
+
+-- the first line, and those behind it
+first_line : (w ys : List ℕ) → is_unbroken w ≡ true → lines_of (w ++ 10 ∷ ys) ≡ (w ++ 10 ∷ []) ∷ lines_of ys
+first_line [] ys p = refl
+first_line (c ∷ w) ys p =
+    let parts = and_parts (not (c == 10)) (is_unbroken w) p in
+    ap (before_lines c) (first_line w ys parts.1) ∙ before_other c ((w ++ 10 ∷ []) ∷ lines_of ys) parts.0
+
+pub lines_again : (ls : List (List ℕ)) → AreLines ls → lines_of (concat ls) ≡ ls
+lines_again [] are = refl
+lines_again (l ∷ ls) are =
+    let (w, unbroken, is) = are.0 in
+    ap (λ (x : List ℕ). lines_of (x ++ concat ls)) is ∙ ap lines_of (append_assoc w (10 ∷ []) (concat ls)) ∙ first_line w (concat ls) unbroken
+    ∙ (λ i. sym is i ∷ lines_again ls are.1 i)
+
+-- lines of which the filter leaves these bytes
+pub record Leaves (keep : List ℕ → Bool) (bytes left : List ℕ) : Type 0 where
+  pub lines : List (List ℕ)
+  pub are : AreLines lines
+  pub whole : bytes ≡ concat lines
+  pub rest : left ≡ concat (filter keep lines)
+
+module _ (keep : List ℕ → Bool) where
+  pub leaves_nothing : Leaves keep [] []
+  leaves_nothing = record { lines = []; are = tt; whole = refl; rest = refl }
+
+  pub leaves_both : {a b c d : List ℕ} → Leaves keep a b → Leaves keep c d → Leaves keep (a ++ c) (b ++ d)
+  leaves_both x y = record {
+    lines = x.lines ++ y.lines;
+    are = lines_both x.lines y.lines x.are y.are;
+    whole = (λ i. x.whole i ++ y.whole i) ∙ sym (concat-append x.lines y.lines);
+    rest = (λ i. x.rest i ++ y.rest i) ∙ sym (concat-append (filter keep x.lines) (filter keep y.lines)) ∙ ap concat (sym (filter-append keep x.lines y.lines));
+  }
+
+  -- a line that stays, or goes
+  pub leaves_line : (l : List ℕ) (stays : Bool) → IsLine l → keep l ≡ stays → Leaves keep l (cond stays l [])
+  leaves_line l stays is e = record { lines = l ∷ []; are = (is, tt); whole = sym (append-nil l); rest = by_case stays ∙ ap (λ b. concat (cond b (l ∷ []) [])) (sym e) }
+    where
+      by_case : (b : Bool) → cond b l [] ≡ concat (cond b (l ∷ []) [])
+      by_case true = sym (append-nil l)
+      by_case false = refl
+
+  -- the same of each thing's line
+  pub leaves_each : {A : Type 0} (line_of : A → List ℕ) (stay : Bool) → ((x : A) → IsLine (line_of x)) → ((x : A) → keep (line_of x) ≡ stay) → (xs : List A) → Leaves keep (flat_map line_of xs) (cond stay (flat_map line_of xs) [])
+  leaves_each line_of true are e [] = leaves_nothing
+  leaves_each line_of false are e [] = leaves_nothing
+  leaves_each line_of true are e (x ∷ xs) = leaves_both (leaves_line (line_of x) true (are x) (e x)) (leaves_each line_of true are e xs)
+  leaves_each line_of false are e (x ∷ xs) = leaves_both (leaves_line (line_of x) false (are x) (e x)) (leaves_each line_of false are e xs)
+
+  kept_lines : (ls : List (List ℕ)) → AreLines ls → AreLines (filter keep ls)
+  kept_lines [] are = tt
+  kept_lines (l ∷ ls) are = by_case (keep l) are.0 (kept_lines ls are.1)
+    where
+      by_case : (b : Bool) → IsLine l → AreLines (filter keep ls) → AreLines (cond b (l ∷ filter keep ls) (filter keep ls))
+      by_case true first rest = (first, rest)
+      by_case false first rest = rest
+
+  -- what is left is what the filter leaves of the lines of the bytes, and its lines are these
+  pub what_is_left : (bytes left : List ℕ) → Leaves keep bytes left → (left ≡ concat (filter keep (lines_of bytes))) × (lines_of left ≡ filter keep (lines_of bytes))
+  what_is_left bytes left l =
+      let lines : lines_of bytes ≡ l.lines = ap lines_of l.whole ∙ lines_again l.lines l.are in
+      let kept : filter keep (lines_of bytes) ≡ filter keep l.lines = ap (filter keep) lines in
+      (l.rest ∙ ap concat (sym kept), ap lines_of l.rest ∙ lines_again (filter keep l.lines) (kept_lines l.lines l.are) ∙ sym kept)
 
 -- a line that begins with none of these
 abbrev pub stays : List (List ℕ) → List ℕ → Bool
@@ -166,3 +266,132 @@ refusal_is token r = words_line (codes "refused: token" ∷ (numeral token ++ co
 
 pub long_is : IsLine (refusal_line TextTooLong)
 long_is = words_line (codes "refused: text too long" ∷ []) (refl, tt)
+
+no_separator : (w : List ℕ) → HasNoSeparator w → IsUnbroken w
+no_separator [] p = refl
+no_separator (c ∷ w) p = and_from _ _ (not_from_false _ (or_parts _ _ p.0).1) (no_separator w p.1)
+
+pub token_unbroken : (w : List ℕ) → IsToken w → IsUnbroken w
+token_unbroken [] p = absurd p
+token_unbroken (c ∷ w) p = no_separator (c ∷ w) p
+
+event_unbroken : (k : ℕ) (e : Option Event) → IsUnbroken (spell_about k e)
+event_unbroken k None = refl
+event_unbroken k (Some e) = token_unbroken (spell (about k e)) (spell_token (about k e))
+
+anomaly_unbroken : (name : Anomaly) → IsUnbroken (anomaly_words name)
+anomaly_unbroken OwnWriteMissed = refl
+anomaly_unbroken AbortedRead = refl
+anomaly_unbroken UncommittedRead = refl
+anomaly_unbroken FutureRead = refl
+anomaly_unbroken Phantom = refl
+anomaly_unbroken StaleRead = refl
+
+start_unbroken : (t s : ℕ) → IsUnbroken (start_words t s)
+start_unbroken t s = glued (codes "transaction ") (numeral t ∷ codes " starts after event " ∷ numeral s ∷ []) refl (numeral_unbroken t, (refl, (numeral_unbroken s, tt)))
+
+bare_unbroken : (e : Option Event) → IsUnbroken (spell_bare e)
+bare_unbroken None = refl
+bare_unbroken (Some e) = token_unbroken (spell (listing [] e)) (spell_token (listing [] e))
+
+-- how lines begin that stand in an explained report and not in a brief one
+abbrev pub told_in_explained : List (List ℕ)
+told_in_explained = codes "dangerous " ∷ codes "snapshot " ∷ codes "  " ∷ []
+
+abbrev pub keep : List ℕ → Bool
+keep = stays told_in_explained
+
+module _ (h : List Event) where
+  pub words_unbroken : (k p : ℕ) → IsUnbroken (event_words h k p)
+  words_unbroken k p = glued (codes "event ") (numeral p ∷ codes " " ∷ told_about h p k ∷ []) refl (numeral_unbroken p, (refl, (event_unbroken k (at_place h p), tt)))
+
+  version_unbroken : (k v : ℕ) (words : List ℕ) → TellsVersion h k v words → IsUnbroken words
+  version_unbroken k v words told = elim told.2 [
+    | inl x ↦ subst IsUnbroken (sym x.1) (words_unbroken k told.0)
+    | inr x ↦ subst IsUnbroken (sym x.2) (glued (event_words h k told.0) (codes ", " ∷ event_words h k x.0 ∷ []) (words_unbroken k told.0) (refl, (words_unbroken k x.0, tt)))
+  ]
+
+  sight_unbroken : (e : Edge) (words : List ℕ) → TellsSight h e words → IsUnbroken words
+  sight_unbroken e words (p, v, version, first, told, is) = subst IsUnbroken (sym is) (unbroken_both (event_words h e.key p) version (words_unbroken e.key p) (by_case told))
+    where
+      by_case : TellsUnless (untold_of e.kind e.src) h (codes "; ") e.key v [] version → IsUnbroken version
+      by_case (inl x) = subst IsUnbroken (sym x.1) refl
+      by_case (inr x) = subst IsUnbroken (sym x.3) (glued (codes "; ") (x.1 ∷ [] ∷ []) refl (version_unbroken e.key v x.1 x.2, (refl, tt)))
+
+  conflict_unbroken : (b : BadWrite) (start words : List ℕ) → IsUnbroken start → TellsConflict h b start words → IsUnbroken words
+  conflict_unbroken b start words p (inl x) = subst IsUnbroken (sym x.2) (glued (codes "lost update: ") (start ∷ codes "; " ∷ event_words h b.key x.0 ∷ []) refl (p, (refl, (words_unbroken b.key x.0, tt))))
+  conflict_unbroken b start words p (inr x) = subst IsUnbroken (sym x.1) (unbroken_both (codes "write conflict: ") start refl p)
+
+  two_unbroken : (one other words : List ℕ) → IsUnbroken one → IsUnbroken other → words ≡ one ++ codes "; " ++ other → IsUnbroken words
+  two_unbroken one other words p q is = subst IsUnbroken (sym is) (glued one (codes "; " ∷ other ∷ []) p (refl, (q, tt)))
+
+  events_unbroken : (kind : Kind) (e : Edge) (words : List ℕ) → TellsEvents kind h e words → IsUnbroken words
+  events_unbroken Ww e words x = two_unbroken x.0 x.1 words (version_unbroken e.key e.src x.0 x.2) (version_unbroken e.key e.dst x.1 x.3) x.4
+  events_unbroken Wr e words x = two_unbroken x.0 x.1 words (version_unbroken e.key e.src x.0 x.2) (sight_unbroken e x.1 x.3) x.4
+  events_unbroken Rw e words x = two_unbroken x.0 x.1 words (sight_unbroken e x.0 x.2) (version_unbroken e.key e.dst x.1 x.3) x.4
+
+  spaced_goes : (w : List ℕ) → IsUnbroken w → Leaves keep (codes "  " ++ (w ++ 10 ∷ [])) []
+  spaced_goes w p = leaves_line keep (codes "  " ++ (w ++ 10 ∷ [])) false (codes "  " ++ w, p, refl) refl
+
+  pub reason_goes : (words : List ℕ) → IsUnbroken words → Leaves keep (reason words) []
+  reason_goes words p = spaced_goes words p
+
+  version_goes : (before : List ℕ) (k v : ℕ) (bytes : List ℕ) → IsUnbroken before → TellsUnless 0 h (codes "  " ++ before) k v (codes "\n") bytes → Leaves keep bytes []
+  version_goes before k v bytes p (inl x) = subst (λ (b : List ℕ). Leaves keep b []) (sym x.1) (leaves_nothing keep)
+  version_goes before k v bytes p (inr x) = subst (λ (b : List ℕ). Leaves keep b []) (sym x.3) (spaced_goes (before ++ x.1) (unbroken_both before x.1 p (version_unbroken k v x.1 x.2)))
+
+  pub bad_read_goes : (b : BadRead) (bytes : List ℕ) → TellsBadRead h b bytes → Leaves keep bytes []
+  bad_read_goes b bytes (name, s, saw, due, named, starts, told_saw, told_due, is) =
+      subst (λ (x : List ℕ). Leaves keep x []) (sym is) (leaves_both keep (leaves_both keep
+      (reason_goes (anomaly_words name ++ codes ": " ++ event_words h b.key b.place ++ codes "; " ++ start_words b.txn s)
+      (glued (anomaly_words name) (codes ": " ∷ event_words h b.key b.place ∷ codes "; " ∷ start_words b.txn s ∷ []) (anomaly_unbroken name) (refl, (words_unbroken b.key b.place, (refl, (start_unbroken b.txn s, tt))))))
+      (version_goes (codes "saw: ") b.key b.saw saw refl told_saw)) (version_goes (codes "due: ") b.key b.due due refl told_due))
+
+  pub unexplained_goes : (b : Unexplained) (bytes : List ℕ) → TellsUnexplained h b bytes → Leaves keep bytes []
+  unexplained_goes b bytes (due, is, told) = bad_read_goes (record { place = b.place; txn = b.txn; key = b.key; saw = b.saw; due = due }) bytes told
+
+  pub bad_write_goes : (b : BadWrite) (bytes : List ℕ) → TellsBadWrite h b bytes → Leaves keep bytes []
+  bad_write_goes b bytes (s, name, first, second, starts, named, one, other, is) =
+      subst (λ (x : List ℕ). Leaves keep x []) (sym is) (reason_goes (name ++ codes "; " ++ first ++ codes "; " ++ second)
+      (glued name (codes "; " ∷ first ∷ codes "; " ∷ second ∷ []) (conflict_unbroken b (start_words b.second s) name (start_unbroken b.second s) named)
+      (refl, (version_unbroken b.key b.first first one, (refl, (version_unbroken b.key b.second second other, tt))))))
+
+  pub class_goes : (edges : List Edge) (bytes : List ℕ) → TellsClass h edges bytes → Leaves keep bytes []
+  class_goes edges bytes (inl x) = subst (λ (b : List ℕ). Leaves keep b []) (sym x.1) (reason_goes allowed_words refl)
+  class_goes edges bytes (inr x) = subst (λ (b : List ℕ). Leaves keep b []) (sym x.1) (reason_goes forbidden_words refl)
+
+  pub step_goes : (e : Edge) (bytes : List ℕ) → TellsStep h e bytes → Leaves keep bytes []
+  step_goes e bytes (words, told, is) =
+      subst (λ (x : List ℕ). Leaves keep x []) (sym is) (reason_goes (numeral e.src ++ codes " " ++ edge_word e.kind e.key ++ codes " " ++ numeral e.dst ++ codes ": " ++ words)
+      (glued (numeral e.src) (codes " " ∷ edge_word e.kind e.key ∷ codes " " ∷ numeral e.dst ∷ codes ": " ∷ words ∷ []) (numeral_unbroken e.src)
+      (refl, (edge_unbroken e.kind e.key, (refl, (numeral_unbroken e.dst, (refl, (events_unbroken e.kind e words told, tt))))))))
+
+  bound_goes : (before : List ℕ) → IsUnbroken before → (c p k : ℕ) → Leaves keep (bound_words (codes "  " ++ before) h c p k) []
+  bound_goes before b c p k =
+      reason_goes (before ++ event_words h k c ++ codes ": " ++ event_words h k p)
+      (glued before (event_words h k c ∷ codes ": " ∷ event_words h k p ∷ []) b (words_unbroken k c, (refl, (words_unbroken k p, tt))))
+
+  excluded_goes : (t : ℕ) (bytes : List ℕ) → TellsExcluded h t bytes → Leaves keep bytes []
+  excluded_goes t bytes (inl x) = subst (λ (b : List ℕ). Leaves keep b []) (sym x.4) (bound_goes (codes "not with ") refl x.0 x.1 x.2)
+  excluded_goes t bytes (inr x) =
+      subst (λ (b : List ℕ). Leaves keep b []) (sym x.2) (reason_goes (codes "not after " ++ bare_words h x.0)
+      (unbroken_both (codes "not after ") (bare_words h x.0) refl (glued (codes "event ") (numeral x.0 ∷ codes " " ∷ spell_bare (at_place h x.0) ∷ []) refl (numeral_unbroken x.0, (refl, (bare_unbroken (at_place h x.0), tt))))))
+
+  none_goes : (t : ℕ) (bytes : List ℕ) → TellsNone h t bytes → Leaves keep bytes []
+  none_goes t bytes (inl x) =
+      subst (λ (b : List ℕ). Leaves keep b []) (sym x.3) (reason_goes (codes "in no snapshot: " ++ event_words h x.1 x.0)
+      (unbroken_both (codes "in no snapshot: ") (event_words h x.1 x.0) refl (words_unbroken x.1 x.0)))
+  none_goes t bytes (inr x) =
+      subst (λ (b : List ℕ). Leaves keep b []) (sym x.7) (leaves_both keep (bound_goes (codes "not without ") refl x.1 x.2 x.3) (excluded_goes t x.4 x.6))
+
+  told_goes : (w : List ℕ) (ws : List (List ℕ)) → AreUnbroken (w ∷ ws) → Leaves keep (line (codes "snapshot" ∷ w ∷ ws)) []
+  told_goes w ws are =
+      leaves_line keep (line (codes "snapshot" ∷ w ∷ ws)) false (words_line (codes "snapshot" ∷ w ∷ ws) (refl, are)) refl
+
+  pub snapshot_goes : (t : ℕ) (bytes : List ℕ) → TellsSnapshot h t bytes → Leaves keep bytes []
+  snapshot_goes t bytes (inl x) = subst (λ (b : List ℕ). Leaves keep b []) (sym x.1) (leaves_nothing keep)
+  snapshot_goes t bytes (inr (inl x)) =
+      subst (λ (b : List ℕ). Leaves keep b []) (sym x.4) (told_goes (numeral t) (codes "from" ∷ numeral x.1 ∷ codes "to" ∷ numeral x.2 ∷ [])
+      (numeral_unbroken t, (refl, (numeral_unbroken x.1, (refl, (numeral_unbroken x.2, tt))))))
+  snapshot_goes t bytes (inr (inr x)) =
+      subst (λ (b : List ℕ). Leaves keep b []) (sym x.4) (leaves_both keep (told_goes (numeral t) (codes "none" ∷ []) (numeral_unbroken t, (refl, tt))) (none_goes t x.2 x.3))

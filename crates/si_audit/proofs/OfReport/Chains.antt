@@ -4,10 +4,13 @@ use Rattle.sia_parts.specs.declared.finding.BadWrite.{BadWrite}
 use Rattle.sia_parts.specs.declared.finding.Unexplained.{Unexplained}
 use Rattle.sia_parts.specs.declared.finding.Edge.{Edge}
 use Rattle.sia_graph.specs.declared.pivot.Pivot.{Pivot}
-use Rattle.si_audit.specs.Lines.{is_empty, isolation_line, bad_read_line, bad_write_line, unexplained_line, edge_line, pivot_line, step_words, home_word, cycle_line}
+use Rattle.si_audit.specs.Lines.{is_empty, isolation_line, bad_read_line, bad_write_line, unexplained_line, edge_line, pivot_line, step_words, home_word, cycle_line, events_line, ssi_line, serializable_line, verdict_line, told, report_text}
 use Rattle.std.proofs.Common.{◌&&◌, ◌≡◌, ℕ, ◌+◌, ◌<◌, List, [], ◌∷◌, ◌++◌, length, take, flat_map, get_or, ap, sym, ◌∙◌, append_assoc, append-nil, codes, refl}
 use Rattle.std.proofs.lemmas.Grind.{flat_map-append}
 use Rattle.std.proofs.lemmas.List.{take_more, flat_map_more}
+use Rattle.sia_graph.specs.declared.judgement.Judgement.{Judgement}
+use Rattle.si_audit.specs.Account.{account_with}
+use Rattle.si_audit.specs.declared.options.Form.{Form}
 use Rattle.si_audit.specs.Explained.{TellsAll, WithReasons}
 use Rattle.si_audit.proofs.Shared.Telling.{lines_alone}
 use Rattle.std.specs.List.{join_with_byte}
@@ -88,3 +91,23 @@ next_words ws i d o m n inside step before =
     let both : so_far ++ words_of w ≡ flat_map words_of (take (i + 1) ws) = sym (one_more_mapped words_of (take i ws) w) ∙ ap (flat_map words_of) (sym (take_more ws i d inside)) in
     step ∙ ap (λ (x : List ℕ). x ++ spaced (words_of w)) before ∙ append_assoc o (spaced so_far) (spaced (words_of w))
     ∙ ap (λ (x : List ℕ). o ++ x) (sym (spaced-append so_far (words_of w)) ∙ ap spaced both)
+
+-- the parts of a report, which are its own front and back
+parts_of_report : (e i r w u d p s z v : List ℕ) → (e ++ i ++ r ++ w ++ u) ++ (d ++ p) ++ (s ++ z ++ v) ≡ e ++ i ++ r ++ w ++ u ++ d ++ p ++ s ++ z ++ v
+parts_of_report e i r w u d p s z v = simp append_assoc
+
+-- the report of a judgement, whose front and back these are
+pub report_on_sheets : (j : Judgement) (form : Form) (edges : List Edge) (pivots : List Pivot) (front back middle : List ℕ)
+    → front ≡ events_line j.counts.events j.counts.committed j.counts.aborted j.counts.unfinished
+    ++ isolation_line (is_empty j.bad_reads.items && is_empty j.bad_writes.items)
+    ++ flat_map bad_read_line j.bad_reads.items
+    ++ flat_map bad_write_line j.bad_writes.items
+    ++ flat_map unexplained_line j.unexplained.items
+    → back ≡ ssi_line j.pass ++ serializable_line j.serializable ++ verdict_line j.verdict
+    → middle ≡ flat_map edge_line (told form edges) ++ flat_map pivot_line (told form pivots) → front ++ middle ++ back ≡ report_text form (account_with j edges pivots)
+report_on_sheets j form edges pivots front back middle f b m =
+    rw (f, m, b) (parts_of_report (events_line j.counts.events j.counts.committed j.counts.aborted j.counts.unfinished)
+    (isolation_line (is_empty j.bad_reads.items && is_empty j.bad_writes.items))
+    (flat_map bad_read_line j.bad_reads.items) (flat_map bad_write_line j.bad_writes.items) (flat_map unexplained_line j.unexplained.items)
+    (flat_map edge_line (told form edges)) (flat_map pivot_line (told form pivots))
+    (ssi_line j.pass) (serializable_line j.serializable) (verdict_line j.verdict))

@@ -7,7 +7,7 @@ use Rattle.std.proofs.lemmas.List.{drop-append-le, drop_all, length-take-le}
 use Rattle.std.proofs.lemmas.Nat.{mul-add-lt}
 use Rattle.si_audit.specs.declared.sheet.Sheet.{Sheet}
 use Rattle.si_audit.specs.Sheet.{text_on}
-use Rattle.si_audit.specs.Giving.{AreTexts, IsTextOf}
+use Rattle.si_audit.specs.Giving.{IsTextOf}
 
 module _ (Tells : ℕ → List ℕ → Type 0) where
   -- where some are left there is a next one

@@ -1,7 +1,6 @@
 use Rattle.std.proofs.Common.{sym, ◌∙◌, [], ◌++◌, ◌&&◌, flat_map}
 use Rattle.si_audit.specs.Lines as lines
-use Rattle.si_audit.proofs.OfReport.Chains.{front_alone, without_counts}
-use Rattle.si_audit.proofs.Shared.OnSheets.{report_on_sheets}
+use Rattle.si_audit.proofs.OfReport.Chains.{front_alone, report_on_sheets, without_counts}
 use Rattle.si_audit.proofs.engine.sheets.Goals as goal
 
 pub returns : goal.returns

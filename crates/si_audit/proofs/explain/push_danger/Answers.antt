@@ -7,7 +7,6 @@ use Rattle.sia_parts.specs.declared.finding.Edge.{Edge}
 use Rattle.sia_parts.specs.declared.finding.Kind.TheVariants.{Rw}
 use Rattle.sia_parts.specs.Entries.{IsEdge}
 use Rattle.sia_graph.specs.Dangerous.{IsDangerous}
-use Rattle.sia_graph.specs.Judgements.{IsJudgement}
 use Rattle.si_audit.specs.Explained.{TellsAll, dangerous_edges, dangerous_line}
 use Rattle.si_audit.specs.Lines.{line, edge_word}
 use Rattle.si_audit.specs.Reasons.{TellsStep}

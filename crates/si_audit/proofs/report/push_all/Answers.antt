@@ -1,4 +1,4 @@
-use Rattle.std.proofs.Common.{◌≡◌, Option, Bor, subst, sym, All, IfSome, take_all}
+use Rattle.std.proofs.Common.{Option, Bor, subst, sym, All, IfSome, take_all}
 use Rattle.sia_parts.specs.declared.reasons.Recorded.{Recorded}
 use Rattle.si_audit.specs.Explained.{TellsAll, WithReasons, TellsIf}
 use Rattle.si_audit.proofs.Shared.Telling.{IsToldBehind, next_item_told, told_if_none, told_if_some, told_none, with_reasons}
@@ -7,10 +7,6 @@ use Rattle.si_audit.proofs.report.push_all.Goals.{in-Some+in_ok-push_reasons, in
 
 pub loop-x-init : goal.loop-x-init
 loop-x-init g c = told_none (WithReasons g.T.Finding.line (TellsIf c.args.of g.T.Finding.tells)) c.args.out.now.items
-
-pub push_reasons-requires-clause-index : goal.push_reasons-requires-clause-index
-push_reasons-requires-clause-index g c =
-    subst (λ (o : Option (Bor Recorded)). IfSome o (λ of. of.now.index.now ≡ of.now.history.now)) c.in-Some.is c.requires.index
 
 pub push_reasons-requires-clause-found : goal.push_reasons-requires-clause-found
 push_reasons-requires-clause-found g c =

@@ -25,16 +25,6 @@ both_if : (of : Option (Bor Recorded)) (P Q : Bor Recorded → Type 0) → IfSom
 both_if None P Q p q = p
 both_if (Some of) P Q p q = (p, q)
 
-pub push_counts-requires-clause-index : goal.push_counts-requires-clause-index
-push_counts-requires-clause-index c = subst (λ (o : Option (Bor Recorded)). IfSome o (λ of. of.now.index.now ≡ of.now.history.now)) c.in-Some.is c.requires.index
-
-pub push_counts-requires-clause-judgement : goal.push_counts-requires-clause-judgement
-push_counts-requires-clause-judgement c = subst (λ (o : Option (Bor Recorded)). IfSome o (λ of. IsJudgement of.now.history.now c.args.j.now)) c.in-Some.is c.requires.judgement
-
-pub push_counts-requires-clause-acts : goal.push_counts-requires-clause-acts
-push_counts-requires-clause-acts c =
-    subst (λ (o : Option (Bor Recorded)). IfSome o (λ of. All (λ (b : BadWrite). HasActs of.now.history.now b.second of.now.acts.now) c.args.j.now.bad_writes.items)) c.in-Some.is c.requires.acts
-
 pub push_all-requires-clause-found : goal.push_all-requires-clause-found
 push_all-requires-clause-found c = all_found c.args.of _ _ _ _ c.deref-3.ensures.value (λ of is x listed. ((is.bad_reads.each x).0 listed).0) c.requires.judgement
 

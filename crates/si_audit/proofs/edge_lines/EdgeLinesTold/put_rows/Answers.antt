@@ -1,6 +1,7 @@
 -- The first words fit a word, and each row puts its line.
 use denote.Enum.Declared.{tag_of}
-use Rattle.std.proofs.Common.{◌≡◌, ◌++◌, ◌+◌, ◌<◌, ◌≤◌, ◌^◌, List, [], ◌∷◌, get_or, length, take, refl, ap, subst, ◌∙◌, arith, rules, slice_index}
+use Rattle.std.proofs.Common.{ℕ, ◌≡◌, ◌++◌, ◌+◌, ◌<◌, ◌≤◌, ◌^◌, List, [], ◌∷◌, get_or, length, take, refl, ap, subst, ◌∙◌, arith, rules, slice_index}
+use Rattle.sia_events.specs.Text.{numeral}
 use Rattle.sia_parts.specs.contracts.finding.Kind.{the_type}
 use Rattle.sia_parts.specs.declared.finding.Kind.{Kind}
 use Rattle.sia_parts.specs.declared.edges.EdgeTo.{EdgeTo}
@@ -20,23 +21,18 @@ numbered Rw = refl
 pub of-head-requires : goal.of-head-requires
 of-head-requires c = let small : c.from-source.result < 2 ^ 32 = search rules in omega (arith, numeral_short 10 c.from-source.result (omega arith) (omega arith) (omega arith))
 
+-- the first words leave room for a kind
+short : (n len : ℕ) → n < 2 ^ 32 → len ≡ 5 + length (numeral n) + 1 → len + 2 ≤ 23
+short n len small long = omega (arith, numeral_short 10 n (omega arith) (omega arith) (omega arith))
+
 pub with-requires : goal.with-requires
-with-requires c =
-    let small : c.from-source.result < 2 ^ 32 = search rules in
-    let long = c.of-head.ensures.len in
-    omega (arith, numeral_short 10 c.from-source.result (omega arith) (omega arith) (omega arith))
+with-requires c = short c.from-source.result c.of-head.result.len (search rules) c.of-head.ensures.len
 
 pub with-requires-2 : goal.with-requires-2
-with-requires-2 c =
-    let small : c.from-source.result < 2 ^ 32 = search rules in
-    let long = c.of-head.ensures.len in
-    omega (arith, numeral_short 10 c.from-source.result (omega arith) (omega arith) (omega arith))
+with-requires-2 c = short c.from-source.result c.of-head.result.len (search rules) c.of-head.ensures.len
 
 pub with-requires-3 : goal.with-requires-3
-with-requires-3 c =
-    let small : c.from-source.result < 2 ^ 32 = search rules in
-    let long = c.of-head.ensures.len in
-    omega (arith, numeral_short 10 c.from-source.result (omega arith) (omega arith) (omega arith))
+with-requires-3 c = short c.from-source.result c.of-head.result.len (search rules) c.of-head.ensures.len
 
 pub putting-preserved : goal.putting-preserved
 putting-preserved c =

@@ -10,9 +10,6 @@ use Rattle.si_audit.proofs.Shared.Pushed.{start_alone, start_pushed, two_things}
 use Rattle.si_audit.proofs.explain.BadWriteFinding.push_reasons.Goals as goal
 use Rattle.si_audit.proofs.explain.BadWriteFinding.push_reasons.Goals.{in-Some-loss_of+in_ok-push_start-in-Some-loss_of+in_ok-push_event-in-Some-loss_of, in-None+in_ok-push_start-in-None}
 
-pub push_unless-requires-clause-wrote : goal.push_unless-requires-clause-wrote
-push_unless-requires-clause-wrote c other = c.requires.found.0.1
-
 pub returns-in_default : goal.returns-in_default
 returns-in_default c =
     let b = c.args.self.now in
