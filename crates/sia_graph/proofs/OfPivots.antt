@@ -1,8 +1,6 @@
-pub mod EarlyOuts
 pub mod LinkLists
 pub mod ListedAs
 pub mod Outs
-pub mod Overlaps
 pub mod Picked
 pub mod PivotRows
 pub mod Vulnerable

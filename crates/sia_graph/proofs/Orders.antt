@@ -2,7 +2,6 @@ pub mod Chains
 pub mod DoneNodes
 pub mod Mapped
 pub mod Pending
-pub mod ReadyNodes
 pub mod ReadySets
 pub mod Released
 pub mod StuckNodes

@@ -1,4 +1,3 @@
-pub mod ChainOf
 pub mod MapSteps
 pub mod Replayed
 pub mod RightAt

@@ -18,7 +18,6 @@ pub mod Numbered
 pub mod OrderPlaces
 pub mod PartedLists
 pub mod PositionEdges
-pub mod PositionTwos
 pub mod Positions
 pub mod Ranges
 pub mod ReadyOrders

@@ -1,7 +1,5 @@
-pub mod EarlyFirsts
 pub mod Entering
 pub mod FoundFirsts
-pub mod LastMarks
 pub mod LateEdges
 pub mod Marks
 pub mod Raised

@@ -1,2 +1,1 @@
-pub mod BlockTwos
 pub mod EnteredTwos

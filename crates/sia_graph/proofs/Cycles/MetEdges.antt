@@ -1,32 +1,161 @@
+-- The positions of keys follow one another by the numbers of these.
 -- The edges from one transaction to another are those of the versions that one made and that the other made, saw or missed; and
 -- the least of their keys has the least number.
-use Rattle.std.proofs.Common.{◌≡◌, ◌≢◌, ◌⊎◌, inl, inr, ℕ, ◌<◌, ◌≤◌, List, ap, sym, subst, ◌∙◌, arith}
-use Rattle.std.specs.Prelude.{◌↔◌, ⊤, Contains}
+use Rattle.std.proofs.Common.{◌≡◌, inl, inr, ℕ, ◌+◌, ◌<◌, ◌≤◌, true, false, ltb, List, [], ◌∷◌, Some, length, get_or, slice_get, refl, ap, subst, ◌∙◌, arith, ◌≢◌, ◌⊎◌, sym}
+use Rattle.std.specs.Prelude.{◌↔◌, Contains, slice_index_or, ⊤}
+use Rattle.std.specs.List.Sorted.{IsPartitionPoint}
+use Rattle.std.proofs.lemmas.Bool.{cases_lt, ltb-true, ltb-false}
+use Rattle.std.proofs.lemmas.List.{get_or_default}
+use Rattle.std.proofs.lemmas.List.Elements.{Contains-get_or}
+use Rattle.std.proofs.lemmas.Option.{get_or_from_slice_get, slice_get_within}
 use Rattle.sia_events.specs.declared.event.Event.{Event}
+use Rattle.sia_events.specs.Lists.{Precedes, ListsAscending}
+use Rattle.sia_events.specs.Transactions.{Wrote}
+use Rattle.sia_events.proofs.Worked.OneList.{one_list_by}
+use Rattle.sia_index.specs.Info.{AreWrittenKeys, IsKeyAt}
+use Rattle.sia_index.specs.Positions.{IsAtPosition, IsVersion, AreAllVersions}
+use Rattle.sia_index.specs.declared.info.KeyVersion.{KeyVersion}
+use Rattle.sia_parts.proofs.Auditing.Passing.{number_from, key_before}
+use Rattle.sia_parts.proofs.CutKeys.StartLemmas.{increasing}
+use Rattle.sia_parts.specs.declared.accesses.RangeMiss.{RangeMiss}
+use Rattle.sia_parts.specs.declared.finding.Kind.{Kind}
+use Rattle.sia_parts.specs.declared.finding.Kind.TheVariants.{Ww, Wr, Rw}
+use Rattle.sia_graph.specs.LeastEdges.{AreMade, IsKeyOf, IsMadeWithin, IsMet, IsMissMet, Meets, IsLeastEdgeBetween}
+use Rattle.sia_graph.specs.Twos.{HaveOneKey, IsLeastNumber}
+use Rattle.sia_graph.proofs.Shared.AscendingIds.{ids_no_less}
+use Rattle.sia_graph.proofs.Shared.LeastNumbers.{least_same}
+use Rattle.sia_parts.proofs.Shared.OneNumber.{one_key_number, one_key as one_key_at, one_committed_number as one_number}
+use Rattle.sia_parts.proofs.EdgeRows.PositionOrder.{one_version as one_at, by_commit as commits_less}
 use Rattle.sia_events.specs.Dependencies.{RwEdge, WrEdge, WwEdge}
-use Rattle.sia_events.specs.Lists.{ListsAscending}
 use Rattle.sia_events.specs.Refusals.{IsWellFormed}
 use Rattle.sia_events.proofs.Writing.WellFormed.{one_commit}
-use Rattle.sia_index.specs.Info.{AreWrittenKeys, IsKeyAt}
 use Rattle.sia_index.specs.Numbers.{IsCommittedAt}
-use Rattle.sia_index.specs.Positions.{AreAllVersions, IsAtPosition}
-use Rattle.sia_index.specs.declared.info.KeyVersion.{KeyVersion}
 use Rattle.sia_parts.proofs.Shared.FewNumbers.{few_keys}
 use Rattle.sia_parts.specs.Accesses.{AreAccesses, HasMiss, Missed, SawPosition}
 use Rattle.sia_parts.specs.Entries.{EdgeOfKind, kind_number}
 use Rattle.sia_parts.specs.Sights.{FromSome}
 use Rattle.sia_parts.specs.declared.accesses.Accesses.{Accesses}
-use Rattle.sia_parts.specs.declared.accesses.RangeMiss.{RangeMiss}
-use Rattle.sia_parts.specs.declared.finding.Kind.{Kind}
-use Rattle.sia_parts.specs.declared.finding.Kind.TheVariants.{Ww, Wr, Rw}
-use Rattle.sia_parts.proofs.Auditing.Passing.{key_before}
 use Rattle.sia_graph.specs.Dangerous.{IsLeast}
-use Rattle.sia_graph.specs.LeastEdges.{IsKeyOf, IsLeastEdgeBetween, IsMet, IsMissMet}
-use Rattle.sia_graph.specs.Twos.{IsLeastNumber}
-use Rattle.sia_graph.proofs.Cycles.KeyStretches.{number_of_key}
 use Rattle.sia_graph.proofs.Shared.PositionEdges.{MadeAt, made_commits, rw_positions, wr_positions, ww_positions}
-use Rattle.sia_parts.proofs.Shared.OneNumber.{one_key_number, one_committed_number as one_number}
-use Rattle.sia_parts.proofs.EdgeRows.PositionOrder.{by_commit as commits_less, one_version as one_at}
+
+-- from where to before where a version stands that makes an edge of this kind with the one at p
+abbrev pub IsSpan : Kind → ℕ → ℕ → ℕ → ℕ → ℕ → Type 0
+IsSpan Ww p start end from to = (from ≡ start) × (to ≡ p)
+IsSpan Wr p start end from to = (from ≡ start) × (to ≡ p + 1)
+IsSpan Rw p start end from to = (from ≡ p + 1) × (to ≡ end)
+
+module _ (h : List Event) where
+  -- a key that is written has a number
+  pub number_of_key : (keys : List ℕ) → AreWrittenKeys h keys → (k t : ℕ) → Wrote h t k → (j : ℕ) × IsKeyAt h j k
+  number_of_key keys are k t wrote = let w = (are.each k).1 (t, wrote) in (w.0, (keys, are, w.1, get_or_default keys w.0 0 k w.1 ∙ w.2))
+
+  keys_rise : (p q : ℕ) (v w : KeyVersion) → IsAtPosition h p v → IsAtPosition h q w → p < q → v.key ≤ w.key
+  keys_rise p q v w at other less =
+      let there : slice_get at.0 q ≡ Some w = ap (λ (xs : List KeyVersion). slice_get xs q) (one_list_by (λ x. x.key ∷ x.commit ∷ []) (IsVersion h) at.0 other.0 at.1 other.1) ∙ other.2 in
+      let a = get_or_from_slice_get at.0 p v v at.2 in
+      let b = get_or_from_slice_get at.0 q w v there in
+      of_ranks (subst (λ (x : KeyVersion). Precedes (x.key ∷ x.commit ∷ []) (w.key ∷ w.commit ∷ [])) a
+      (subst (λ (x : KeyVersion). Precedes ((slice_index_or at.0 p v).key ∷ (slice_index_or at.0 p v).commit ∷ []) (x.key ∷ x.commit ∷ [])) b (at.1.ascending p q v less (slice_get_within at.0 q w there))))
+    where
+      of_ranks : Precedes (v.key ∷ v.commit ∷ []) (w.key ∷ w.commit ∷ []) → v.key ≤ w.key
+      of_ranks (inl key) = omega arith
+      of_ranks (inr (e, rest)) = omega arith
+
+  pub rises : (p q i j : ℕ) → IsKeyOf h p i → IsKeyOf h q j → p ≤ q → i ≤ j
+  rises p q i j a b most = elim (cases_lt p q) [
+    | inl less ↦ number_from h b.2.0 b.2.1 i j a.0.key b.0.key a.2 b.2 (keys_rise p q a.0 b.0 a.1 b.1 less)
+    | inr more ↦
+        let same : p ≡ q = omega arith in
+        let e = one_key_number h i j b.0.key (subst (λ (v : KeyVersion). IsKeyAt h i v.key) (one_at h q a.0 b.0 (subst (λ n. IsAtPosition h n a.0) same a.1) b.1) a.2) b.2 in
+        omega arith
+  ]
+
+  -- two of one key have one number, and the other way round
+  pub one_key : (p q i j : ℕ) → IsKeyOf h p i → IsKeyOf h q j → i ≡ j → HaveOneKey h p q
+  one_key p q i j a b same = (a.0, b.0, a.1, b.1, one_key_at h j a.0.key b.0.key (subst (λ n. IsKeyAt h n a.0.key) same a.2) b.2)
+
+  pub its_number : (p q i j : ℕ) → IsKeyOf h p i → IsKeyOf h q j → HaveOneKey h p q → i ≡ j
+  its_number p q i j a b one =
+      let e = ap (λ (x : KeyVersion). x.key) (one_at h p a.0 one.0 a.1 one.2) in
+      let f = ap (λ (x : KeyVersion). x.key) (one_at h q one.1 b.0 one.3 b.1) in
+      one_key_number h i j b.0.key (subst (IsKeyAt h i) (e ∙ one.4 ∙ f) a.2) b.2
+
+  -- where the positions of the keys from one number on begin
+  pub begins_at : (s j q i : ℕ) → ((q : ℕ) (v : KeyVersion) (i : ℕ) → IsAtPosition h q v → IsKeyAt h i v.key → (q < s) ↔ (i < j)) → IsKeyOf h q i → (s ≤ q) ↔ (j ≤ i)
+  begins_at s j q i parts of =
+      let part = parts q of.0 i of.1 of.2 in (
+        (λ most. elim (cases_lt i j) [ inl less ↦ let back = part.1 less in absurd (omega arith) | inr le ↦ le ]),
+        (λ most. elim (cases_lt q s) [ inl less ↦ let back = part.0 less in absurd (omega arith) | inr le ↦ le ]),
+      )
+
+  -- what a kind asks for is a stretch of positions
+  pub met : (kind : Kind) (p j q i start end from to : ℕ) → IsKeyOf h p j → IsKeyOf h q i → (start ≤ q) ↔ (j ≤ i) → (end ≤ q) ↔ (j + 1 ≤ i) → IsSpan kind p start end from to
+      → ((from ≤ q) × (q < to)) ↔ (HaveOneKey h q p × Meets kind q p)
+  met Ww p j q i start end from to a b low high (x, y) = (
+    (λ w. let l = low.0 (let m = w.0 in omega arith) in let r = rises q p i j b a (let m = w.1 in omega arith) in (one_key q p i j b a (omega arith), (let m = w.1 in omega arith))),
+    (λ w. let e = its_number q p i j b a w.0 in let l = low.1 (omega arith) in let m = w.1 in (omega arith, omega arith)),
+  )
+  met Wr p j q i start end from to a b low high (x, y) = (
+    (λ w. let l = low.0 (let m = w.0 in omega arith) in let r = rises q p i j b a (let m = w.1 in omega arith) in (one_key q p i j b a (omega arith), (let m = w.1 in omega arith))),
+    (λ w. let e = its_number q p i j b a w.0 in let l = low.1 (omega arith) in let m = w.1 in (omega arith, omega arith)),
+  )
+  met Rw p j q i start end from to a b low high (x, y) = (
+    (λ w.
+        let r = rises p q j i a b (let m = w.0 in omega arith) in
+        let l : i < j + 1 = elim (cases_lt i (j + 1)) [ inl less ↦ less | inr more ↦ let n = high.1 more in let m = w.1 in absurd (omega arith) ] in
+        (one_key q p i j b a (omega arith), (let m = w.0 in omega arith))),
+    (λ w.
+        let e = its_number q p i j b a w.0 in
+        let l : q < end = elim (cases_lt q end) [ inl less ↦ less | inr more ↦ let n = high.0 more in absurd (omega arith) ] in
+        (omega arith, omega arith)),
+  )
+
+  -- the first of those made from one position on
+  module _ (made : List ℕ) (are : AreMade h made) (from place : ℕ) (point : IsPartitionPoint (λ y. ltb y from ≡ true) (λ y. ltb y from ≡ false) made place) where
+    rise : (i j : ℕ) → i ≤ j → j < length made → get_or made i 0 ≤ get_or made j 0
+    rise = ids_no_less made (increasing made are.1.ascending)
+
+    -- what stands from there on stands at the place or behind
+    behind : (q : ℕ) → (c : Contains made q) → from ≤ q → place ≤ c.0
+    behind q c most = grind (arith, cases_lt, ltb-true)
+
+    pub none_there : (to : ℕ) → length made ≤ place → IsLeastNumber (IsMadeWithin h made from to) 4294967295
+    none_there to all = inr (refl, λ j w. let b = behind w.0 w.1 w.2 in let l = w.1.1 in omega arith)
+
+    -- the first from there on is no greater than any
+    first_least : (q : ℕ) → Contains made q → from ≤ q → (place < length made) × (get_or made place 0 ≤ q)
+    first_least q c most =
+        let b = behind q c most in
+        let l = c.1 in
+        let r = rise place c.0 b l in
+        let e = get_or_default made c.0 0 q c.1 ∙ c.2 in
+        (omega arith, omega arith)
+
+    pub none_before : (to : ℕ) → place < length made → to ≤ get_or made place 0 → IsLeastNumber (IsMadeWithin h made from to) 4294967295
+    none_before to below most = inr (refl, λ j w. let f = (first_least w.0 w.1 w.2).1 in let l = w.3 in omega arith)
+
+    pub first_is : (to j : ℕ) → place < length made → get_or made place 0 < to → IsKeyOf h (get_or made place 0) j → IsLeastNumber (IsMadeWithin h made from to) j
+    first_is to j below less of =
+        let low = ltb-false (get_or made place 0) from (point.1 place 0 (omega arith) below) in
+        inl (
+          (get_or made place 0, Contains-get_or made place 0 below, omega arith, less, of),
+          λ i w. rises (get_or made place 0) w.0 j i of w.4 (first_least w.0 w.1 w.2).1,
+        )
+
+  -- what is made within a stretch of positions is what meets one of the others, or what a miss holds
+  pub as_met : (kind : Kind) (made : List ℕ) (p from to r : ℕ) → ((q i : ℕ) → IsKeyOf h q i → ((from ≤ q) × (q < to)) ↔ (HaveOneKey h q p × Meets kind q p))
+      → IsLeastNumber (IsMadeWithin h made from to) r → IsLeastNumber (IsMet h kind made p) r
+  as_met kind made p from to r span =
+      least_same (IsMadeWithin h made from to) (IsMet h kind made p) r
+      (λ j w. let x = (span w.0 j w.4).0 (w.2, w.3) in (w.0, w.1, x.0, x.1, w.4))
+      (λ j w. let x = (span w.0 j w.4).1 (w.2, w.3) in (w.0, w.1, x.0, x.1, w.4))
+
+  pub as_missed : (made : List ℕ) (miss : RangeMiss) (from to r : ℕ) → ((q i : ℕ) → IsKeyOf h q i → (from ≤ q) ↔ (miss.from ≤ i)) → ((q i : ℕ) → IsKeyOf h q i → (to ≤ q) ↔ (miss.to ≤ i))
+      → IsLeastNumber (IsMadeWithin h made from to) r → IsLeastNumber (IsMissMet h made miss) r
+  as_missed made miss from to r first last =
+      least_same (IsMadeWithin h made from to) (IsMissMet h made miss) r
+      (λ j w. (w.0, w.1, (first w.0 j w.4).0 w.2, elim (cases_lt j miss.to) [ inl less ↦ less | inr more ↦ let m = (last w.0 j w.4).1 more in let l = w.3 in absurd (omega arith) ], w.4))
+      (λ j w. (w.0, w.1, (first w.0 j w.4).1 w.2, elim (cases_lt w.0 to) [ inl less ↦ less | inr more ↦ let m = (last w.0 j w.4).0 more in let l = w.3 in absurd (omega arith) ], w.4))
 
 -- the positions of the versions that t made
 abbrev pub AreMadeBy : List Event → ℕ → List ℕ → Type 0

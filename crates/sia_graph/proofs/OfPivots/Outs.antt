@@ -37,7 +37,7 @@ use Rattle.sia_graph.specs.Found.{CanFind, OverlapAt, PutsMore, missed_of, saw_o
 use Rattle.sia_graph.specs.Links.{EndsBehind, IsVulnerableAt, OverlapsAfter, OverlapsBehind, OverlapsIn}
 use Rattle.sia_graph.proofs.Shared.AccessLists.{missed_is, saw_is, saw_position}
 use Rattle.sia_graph.proofs.Shared.PositionEdges.{look_of_rw, rw_from_look}
-use Rattle.sia_graph.proofs.Shared.PositionTwos.{positions_below}
+use Rattle.sia_graph.proofs.Shared.EarlierSources.{positions_below}
 use Rattle.sia_parts.proofs.Shared.OneNumber.{one_committed_number as one_number, one_key as one_key_at, one_committed as one_txn_at}
 
 -- nothing, the same, and one after another

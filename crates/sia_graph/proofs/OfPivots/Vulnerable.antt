@@ -1,17 +1,19 @@
+-- Lifetimes and makers by the numbers of transactions.
 -- Vulnerable edges of a well-formed history by the numbers of their ends, and the commits of their sources.
-use Rattle.std.proofs.Common.{◌≡◌, inl, inr, ℕ, ◌<◌, List, [], ◌∷◌, length, get_or, map, refl, sym, subst, ◌∙◌, arith}
-use Rattle.std.specs.Prelude.{◌↔◌, ⊤, AllPairs, Contains, slice_index}
+use Rattle.std.proofs.Common.{◌≡◌, ℕ, ◌<◌, List, Option, length, get_or, subst, arith, inl, inr, [], ◌∷◌, map, refl, sym, ◌∙◌}
+use Rattle.std.specs.Prelude.{MatchOption, unwrap_or, ◌↔◌, ⊤, AllPairs, Contains, slice_index}
+use Rattle.sia_events.specs.declared.event.Event.{Event}
+use Rattle.sia_events.specs.Lists.{ListsAscending, Precedes}
+use Rattle.sia_events.specs.Transactions.{IsCommitted, CommitsAt, Overlap}
+use Rattle.sia_index.specs.declared.info.KeyVersion.{KeyVersion}
+use Rattle.sia_index.specs.declared.info.Lifetime.{Lifetime}
+use Rattle.sia_index.specs.Lifetimes.{AreLifetimes, IsLifetime}
+use Rattle.sia_index.specs.Numbers.{IsCommittedAt}
 use Rattle.std.proofs.lemmas.List.{get_or-map, length-map}
 use Rattle.std.proofs.lemmas.List.Elements.{Contains-get_or}
-use Rattle.sia_events.specs.declared.event.Event.{Event}
 use Rattle.sia_events.specs.Refusals.{IsWellFormed}
-use Rattle.sia_events.specs.Transactions.{CommitsAt, IsCommitted, Overlap}
-use Rattle.sia_events.specs.Lists.{ListsAscending, Precedes}
 use Rattle.sia_events.specs.DangerousStructures.{IsPivot, IsVulnerable}
 use Rattle.sia_events.proofs.Writing.WellFormed.{one_commit}
-use Rattle.sia_index.specs.declared.info.Lifetime.{Lifetime}
-use Rattle.sia_index.specs.Lifetimes.{IsLifetime}
-use Rattle.sia_index.specs.Numbers.{IsCommittedAt}
 use Rattle.sia_parts.specs.declared.finding.Edge.{Edge}
 use Rattle.sia_parts.specs.declared.finding.Kind.TheVariants.{Rw}
 use Rattle.sia_parts.specs.Entries.{EdgeOfKind}
@@ -22,6 +24,18 @@ use Rattle.sia_graph.specs.Links.{IsVulnerableAt, ListsLinks, link_rank}
 use Rattle.sia_graph.proofs.Shared.Numbered.{number_of, txn_number}
 use Rattle.sia_graph.proofs.OfPivots.ListedAs.{mapped}
 use Rattle.sia_parts.proofs.Shared.OneNumber.{one_committed as one_txn_at}
+
+-- the lifetime of a number
+pub lived : (h : List Event) (lifetimes : List Lifetime) → ((txns : List ℕ) → ListsAscending (IsCommitted h) txns → AreLifetimes h txns lifetimes) → (i t : ℕ) → IsCommittedAt h i t
+    → (i < length lifetimes) × ((d : Lifetime) → IsLifetime h t (get_or lifetimes i d))
+lived h lifetimes are i t at =
+    let all = are at.0 at.1 in
+    let below = at.2 in
+    (omega arith, λ d. subst (λ u. IsLifetime h u (get_or lifetimes i d)) at.3 (all.each i d below))
+
+-- who made the version at a position, by what an index answers
+pub maker_is : (h : List Event) (i : ℕ) (o : Option ℕ) (w : KeyVersion) → MatchOption o (w.commit ≡ 0) (λ j. (0 < w.commit) × IsCommittedAt h j w.txn) → 0 < w.commit → IsCommittedAt h (unwrap_or o i) w.txn
+maker_is h i o w p q = grind arith
 
 -- both ends of a vulnerable edge committed
 pub target_committed : (h : List Event) (t u : ℕ) → IsVulnerable h t u → IsCommitted h u

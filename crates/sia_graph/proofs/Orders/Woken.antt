@@ -11,7 +11,7 @@ use Rattle.sia_graph.specs.declared.order.Graph.{Graph}
 use Rattle.sia_graph.specs.declared.order.Taking.{Taking}
 use Rattle.sia_graph.proofs.Orders.Chains.{chain_ended, chain_goes_on, chain_once}
 use Rattle.sia_graph.proofs.Shared.Counted.{one_fewer}
-use Rattle.sia_graph.proofs.Orders.ReadyNodes.{none_freed}
+use Rattle.sia_graph.proofs.Orders.Released.{none_freed}
 use Rattle.sia_graph.proofs.Orders.UnderWay.{at_head, behind_head, changed, head_or, now_was, was_now}
 
 -- t waits at s, as a test

@@ -6,7 +6,7 @@ use Rattle.std.proofs.lemmas.List.Elements.{Contains-get_or}
 use Rattle.sia_index.specs.Positions.{HasPosition, IsAtPosition}
 use Rattle.sia_parts.proofs.CutKeys.StartLemmas.{increasing}
 use Rattle.sia_graph.proofs.Shared.AscendingIds.{ids_rise}
-use Rattle.sia_graph.proofs.Cycles.KeyStretches.{first_is, none_before}
+use Rattle.sia_graph.proofs.Cycles.MetEdges.{first_is, none_before}
 use Rattle.sia_graph.proofs.cycle.least_made.Goals.{After-place_from, In-Some}
 use Rattle.sia_graph.proofs.cycle.least_made.Goals as goal
 

@@ -3,7 +3,7 @@ use Rattle.std.proofs.lemmas.List.{take_all}
 use Rattle.sia_parts.specs.Sights.{FromSome}
 use Rattle.sia_graph.specs.LeastEdges.{IsMet}
 use Rattle.sia_graph.specs.Twos.{IsLeastNumber}
-use Rattle.sia_graph.proofs.Cycles.KeyStretches.{as_met}
+use Rattle.sia_graph.proofs.Cycles.MetEdges.{as_met}
 use Rattle.sia_graph.proofs.Shared.LeastNumbers.{first_least}
 use Rattle.sia_graph.proofs.cycle.least_met.Goals as goal
 

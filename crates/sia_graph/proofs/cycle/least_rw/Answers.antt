@@ -11,8 +11,7 @@ use Rattle.sia_graph.specs.LeastEdges.{IsMet, IsMissMet}
 use Rattle.sia_graph.specs.Twos.{IsLeastNumber}
 use Rattle.sia_graph.proofs.Shared.AccessLists.{missed_is, saw_is, saw_position}
 use Rattle.sia_graph.proofs.Shared.LeastNumbers.{first_least, least_join, least_none}
-use Rattle.sia_graph.proofs.Cycles.KeyStretches.{as_missed, begins_at}
-use Rattle.sia_graph.proofs.Cycles.MetEdges.{least_key, rw_met}
+use Rattle.sia_graph.proofs.Cycles.MetEdges.{least_key, rw_met, as_missed, begins_at}
 use Rattle.sia_parts.proofs.Shared.OneNumber.{one_committed as one_txn_at}
 use Rattle.sia_graph.proofs.cycle.least_rw.Goals as goal
 

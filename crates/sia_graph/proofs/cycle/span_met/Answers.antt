@@ -6,7 +6,7 @@ use Rattle.sia_parts.specs.declared.finding.Kind.{Kind}
 use Rattle.sia_parts.specs.declared.finding.Kind.TheVariants.{Ww, Wr, Rw}
 use Rattle.sia_graph.specs.LeastEdges.{IsKeyOf, Meets}
 use Rattle.sia_graph.specs.Twos.{HaveOneKey}
-use Rattle.sia_graph.proofs.Cycles.KeyStretches.{begins_at, met}
+use Rattle.sia_graph.proofs.Cycles.MetEdges.{begins_at, met}
 use Rattle.sia_graph.proofs.cycle.span_met.Goals.{After-first_or_end-end}
 use Rattle.sia_graph.proofs.cycle.span_met.Goals as goal
 

@@ -5,7 +5,7 @@ use Rattle.sia_graph.specs.Previous.{IsLeftIn}
 use Rattle.sia_graph.specs.Walks.{AreLeastSources, AreLeft}
 use Rattle.sia_events.proofs.Worked.OneList.{one_list_by}
 use Rattle.sia_parts.proofs.CutKeys.StartLemmas.{increasing}
-use Rattle.sia_graph.proofs.Cycles.LeftSources.{IsPrevious, least_source, previous_is, previous_more}
+use Rattle.sia_graph.proofs.Cycles.Walks.{IsPrevious, least_source, previous_is, previous_more}
 use Rattle.sia_parts.specs.Entries.{IsEdge}
 use Rattle.sia_graph.specs.Cycles.{IsPrintedCycle}
 use Rattle.sia_graph.specs.Orders.{IsLeastOrder}

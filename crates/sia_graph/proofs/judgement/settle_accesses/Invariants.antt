@@ -1,5 +1,5 @@
 use Rattle.std.proofs.Common.{◌≡◌, ◌<◌, ℕ, get_or, length}
-use Rattle.sia_graph.proofs.Cycles.LeftSources.{IsPrevious}
+use Rattle.sia_graph.proofs.Cycles.Walks.{IsPrevious}
 use Rattle.sia_graph.proofs.judgement.settle_accesses.Given as goal
 
 abbrev pub invariant-loop-txn : goal.invariant-loop-txn

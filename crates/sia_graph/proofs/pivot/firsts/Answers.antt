@@ -11,10 +11,9 @@ use Rattle.sia_parts.proofs.Shared.Adding.{FromFirst, first_more}
 use Rattle.sia_graph.specs.declared.pivot.Link.{Link}
 use Rattle.sia_graph.specs.Late.{IsLastOf}
 use Rattle.sia_graph.proofs.OfPivots.ListedAs.{listed_as}
-use Rattle.sia_graph.proofs.OfPivots.Overlaps.{lived}
 use Rattle.sia_graph.proofs.OfPivots.Picked.{all_picked, picked_more, picked_same}
-use Rattle.sia_graph.proofs.OfPivots.EarlyOuts.{EntersAt, first_by, last_same}
-use Rattle.sia_graph.proofs.OfPivots.Vulnerable.{CommitsIn, ins_commit, outs_named}
+use Rattle.sia_graph.proofs.OfPivots.PivotRows.{EntersAt, first_by, last_same}
+use Rattle.sia_graph.proofs.OfPivots.Vulnerable.{CommitsIn, ins_commit, outs_named, lived}
 use Rattle.sia_graph.proofs.Shared.Numbered.{txn_number}
 use Rattle.sia_graph.proofs.SsiTest.Entering.{last_either}
 use Rattle.sia_parts.proofs.Shared.OneNumber.{one_committed as one_txn_at}

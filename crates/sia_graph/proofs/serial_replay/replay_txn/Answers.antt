@@ -8,10 +8,9 @@ use Rattle.sia_events.specs.declared.event.Event.TheVariants.{Write}
 use Rattle.sia_events.specs.Events.{actor}
 use Rattle.sia_events.specs.Places.{at_place}
 use Rattle.sia_events.specs.Replay.{is_write_of}
-use Rattle.sia_graph.proofs.ReplayedTxns.MapSteps.{get_other, get_same}
+use Rattle.sia_graph.proofs.ReplayedTxns.MapSteps.{get_other, get_same, IsOnChain, next_event, is_next, place_within, fewer_places, on_chain_more, told_wrong, told_all}
 use Rattle.sia_graph.specs.declared.serial_replay.Mismatch.{Mismatch}
 use Rattle.sia_graph.specs.Replaying.{AreWritten, after, version_in}
-use Rattle.sia_graph.proofs.ReplayedTxns.ChainOf.{IsOnChain, next_event, is_next, place_within, fewer_places, on_chain_more, told_wrong, told_all}
 use Rattle.sia_graph.proofs.serial_replay.replay_txn.Goals as goal
 use Rattle.sia_graph.proofs.serial_replay.replay_txn.Goals.{in-Some+in_default-wrong_key+in-Write+in_ok-insert, in-Some+in_default-wrong_key+in_default-event, in_default}
 

@@ -1,5 +1,5 @@
 use Rattle.sia_graph.specs.Replaying.{version_in}
-use Rattle.sia_graph.proofs.ReplayedTxns.ChainOf.{IsOnChain, places_left}
+use Rattle.sia_graph.proofs.ReplayedTxns.MapSteps.{IsOnChain, places_left}
 use Rattle.sia_graph.proofs.serial_replay.replay_txn.Given as goal
 
 abbrev pub invariant-loop-at : goal.invariant-loop-at

@@ -7,8 +7,7 @@ use Rattle.sia_events.specs.Dependencies.{RwEdge}
 use Rattle.sia_index.specs.Numbers.{IsCommittedAt}
 use Rattle.sia_index.proofs.Shared.KeyChains.{key_number}
 use Rattle.sia_graph.specs.Dangerous.{HasFirst, IsLeast, MayBeFirst}
-use Rattle.sia_graph.proofs.SsiTest.EarlyFirsts.{commit_lived}
-use Rattle.sia_graph.proofs.SsiTest.FoundFirsts.{named}
+use Rattle.sia_graph.proofs.SsiTest.FoundFirsts.{named, commit_lived}
 use Rattle.sia_graph.proofs.Shared.Numbered.{txn_number}
 use Rattle.sia_graph.proofs.ssi.dangerous_of.Goals.{In_ok-first}
 use Rattle.sia_graph.proofs.ssi.dangerous_of.Goals as goal

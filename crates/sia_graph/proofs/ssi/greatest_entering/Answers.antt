@@ -1,7 +1,7 @@
 use Rattle.std.proofs.Common.{arith, get_or}
 use Rattle.std.proofs.lemmas.List.Elements.{Contains-get_or}
 use Rattle.sia_graph.proofs.SsiTest.Entering.{entering_all, entering_more}
-use Rattle.sia_graph.proofs.Shared.PositionTwos.{positions_below}
+use Rattle.sia_graph.proofs.Shared.EarlierSources.{positions_below}
 use Rattle.sia_graph.proofs.ssi.greatest_entering.Goals as goal
 
 pub bounds-late-position : goal.bounds-late-position

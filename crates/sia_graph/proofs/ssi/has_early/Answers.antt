@@ -12,7 +12,7 @@ use Rattle.sia_parts.specs.Accesses.{HasMiss, SawPosition}
 use Rattle.sia_graph.specs.EarlyVersions.{HasEarly, IsFollowedBy}
 use Rattle.sia_index.specs.declared.info.KeyVersion.{KeyVersion}
 use Rattle.sia_graph.proofs.Shared.AccessLists.{missed_is, saw_is, saw_position}
-use Rattle.sia_graph.proofs.SsiTest.EarlyFirsts.{missed_early, next_follows, none_early, none_follows, saw_early}
+use Rattle.sia_graph.proofs.SsiTest.FoundFirsts.{missed_early, next_follows, none_early, none_follows, saw_early}
 use Rattle.sia_parts.proofs.Shared.OneNumber.{one_committed as one_txn_at}
 use Rattle.sia_graph.proofs.ssi.has_early.Goals.{After-at-position-items, After-at-miss-items, In-Some, in-Some+else-commit_at-place, in_default}
 use Rattle.sia_graph.proofs.ssi.has_early.Goals as goal

@@ -9,11 +9,10 @@ use Rattle.sia_graph.specs.KeyBlocks.{IsUnderSome}
 use Rattle.sia_graph.specs.Late.{AreLate, ArePassedMarks, AreSeenMarks, IsMarkedOver}
 use Rattle.sia_graph.specs.Passed.{IsHeldBy, IsOwnPassed}
 use Rattle.sia_graph.proofs.SsiTest.Marks.{passed_marked, passed_unmarked, seen_marked, seen_unmarked}
-use Rattle.sia_graph.proofs.SsiTest.LateEdges.{lates}
+use Rattle.sia_graph.proofs.SsiTest.LateEdges.{lates, last_all, last_more, last_none}
 use Rattle.sia_graph.proofs.Shared.MemberSteps.{size_few}
-use Rattle.sia_graph.proofs.Shared.PositionTwos.{below_positions}
+use Rattle.sia_graph.proofs.Shared.EarlierSources.{below_positions}
 use Rattle.sia_parts.proofs.EdgeRows.Room.{one_count}
-use Rattle.sia_graph.proofs.SsiTest.LastMarks.{last_all, last_more, last_none}
 use Rattle.sia_graph.proofs.SsiTest.Raised.{below_max}
 use Rattle.sia_parts.proofs.EdgeRows.Readings.{few_txns}
 use Rattle.sia_graph.proofs.ssi.late_of.Goals.{After-commit_at, then-commit_at-eq0, else-commit_at-eq0}

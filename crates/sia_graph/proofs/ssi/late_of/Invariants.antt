@@ -1,6 +1,6 @@
 use Rattle.std.proofs.Common.{◌≤◌}
 use Rattle.sia_graph.specs.Late.{ArePassedMarks, AreSeenMarks}
-use Rattle.sia_graph.proofs.SsiTest.LastMarks.{HasLastTo}
+use Rattle.sia_graph.proofs.SsiTest.LateEdges.{HasLastTo}
 use Rattle.sia_graph.proofs.ssi.late_of.Given as goal
 
 abbrev pub invariant-loop-txn : goal.invariant-loop-txn

@@ -7,9 +7,8 @@ use Rattle.sia_index.specs.Numbers.{IsCommittedAt}
 use Rattle.sia_graph.specs.Dangerous.{IsLeast, MayBeFirst}
 use Rattle.sia_index.specs.declared.info.Lifetime.{Lifetime}
 use Rattle.sia_graph.specs.EarlyVersions.{AreValuesFrom}
-use Rattle.sia_graph.proofs.SsiTest.EarlyFirsts.{values_more}
 use Rattle.sia_graph.specs.Late.{AreLate, Enters, IsLastOf}
-use Rattle.sia_graph.proofs.SsiTest.FoundFirsts.{first_fits, first_least}
+use Rattle.sia_graph.proofs.SsiTest.FoundFirsts.{first_fits, first_least, values_more}
 use Rattle.sia_parts.proofs.EdgeRows.Readings.{few_txns}
 use Rattle.sia_graph.proofs.ssi.least_first.Goals.{After-greatest_entering, After-loop-txn, then-place-commit, else-place-commit}
 use Rattle.sia_graph.proofs.ssi.least_first.Goals as goal

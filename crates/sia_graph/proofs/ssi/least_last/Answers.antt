@@ -11,8 +11,7 @@ use Rattle.sia_index.specs.Numbers.{IsCommittedAt}
 use Rattle.sia_graph.specs.Dangerous.{IsLeast}
 use Rattle.sia_graph.specs.EarlyVersions.{IsLimit}
 use Rattle.sia_graph.specs.Late.{AreLate, Enters}
-use Rattle.sia_graph.proofs.SsiTest.EarlyFirsts.{commit_lived}
-use Rattle.sia_graph.proofs.SsiTest.FoundFirsts.{first_committed, last_least, reached_first}
+use Rattle.sia_graph.proofs.SsiTest.FoundFirsts.{first_committed, last_least, reached_first, commit_lived}
 use Rattle.sia_graph.proofs.SsiTest.Marks.{none_there}
 use Rattle.sia_graph.proofs.Shared.Numbered.{number_of, txn_number}
 use Rattle.sia_parts.proofs.EdgeRows.Readings.{few_txns}

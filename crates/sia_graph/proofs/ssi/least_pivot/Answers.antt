@@ -9,8 +9,7 @@ use Rattle.sia_index.specs.declared.info.Lifetime.{Lifetime}
 use Rattle.sia_index.specs.Numbers.{IsCommittedAt}
 use Rattle.sia_graph.specs.EarlyVersions.{IsLimit}
 use Rattle.sia_graph.specs.Late.{AreCommits, AreLate, Enters, IsLastOf}
-use Rattle.sia_graph.proofs.SsiTest.EarlyFirsts.{commit_lived, commits_lived, has_first, limit_is}
-use Rattle.sia_graph.proofs.SsiTest.FoundFirsts.{none_first, pivot_least}
+use Rattle.sia_graph.proofs.SsiTest.FoundFirsts.{none_first, pivot_least, commit_lived, commits_lived, has_first, limit_is}
 use Rattle.sia_parts.proofs.EdgeRows.Readings.{few_txns}
 use Rattle.sia_graph.proofs.ssi.least_pivot.Goals.{In_ok-commits, In_ok-late}
 use Rattle.sia_graph.proofs.ssi.least_pivot.Goals as goal

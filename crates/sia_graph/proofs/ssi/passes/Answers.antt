@@ -2,7 +2,7 @@ use Rattle.std.proofs.Common.{◌≡◌, ◌∙◌, [], Bool, List, true, length
 use Rattle.std.specs.Prelude.{◌↔◌, ◌==◌}
 use Rattle.std.proofs.lemmas.Bool.{false≢true, not-false, not_from_true}
 use Rattle.std.proofs.lemmas.Grind.{common_steps}
-use Rattle.sia_graph.proofs.SsiTest.EarlyFirsts.{there_or_not}
+use Rattle.sia_graph.proofs.SsiTest.FoundFirsts.{there_or_not}
 use Rattle.sia_graph.proofs.Shared.NoFirsts.{kept, no_bad_reads, no_bad_writes}
 use Rattle.sia_graph.proofs.ssi.passes.Goals.{then-not-is_empty-via-then-not-is_empty, then-not-is_empty-via-else-not-is_empty+then-not-is_empty-2}
 use Rattle.sia_graph.proofs.ssi.passes.Goals as goal

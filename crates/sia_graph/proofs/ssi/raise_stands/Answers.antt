@@ -5,7 +5,7 @@ use Rattle.sia_events.specs.declared.event.Event.{Event}
 use Rattle.sia_index.specs.Positions.{ArePositions, HasPosition}
 use Rattle.sia_graph.specs.Late.{IsRaised, StandsAt}
 use Rattle.sia_graph.proofs.Shared.AccessLists.{saw_is, saw_position}
-use Rattle.sia_graph.proofs.Shared.PositionTwos.{positions_below}
+use Rattle.sia_graph.proofs.Shared.EarlierSources.{positions_below}
 use Rattle.sia_graph.proofs.SsiTest.Stands.{IsOwnFirst, IsSeenFirst, own_all, own_more, seen_all, seen_more, stands_there}
 use Rattle.sia_graph.proofs.ssi.raise_stands.Goals.{After-at-position-items, After-first_position}
 use Rattle.sia_graph.proofs.ssi.raise_stands.Goals as goal

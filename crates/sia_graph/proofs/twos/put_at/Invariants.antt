@@ -1,6 +1,6 @@
 use Rattle.std.proofs.Common.{◌<◌, ℕ, List, ◌++◌, map, take}
 use Rattle.sia_graph.specs.Twos.{AreTwosOf}
-use Rattle.sia_graph.proofs.TwoLeast.BlockTwos.{At}
+use Rattle.sia_graph.proofs.TwoLeast.EnteredTwos.{At}
 use Rattle.sia_graph.proofs.twos.put_at.Given as goal
 
 abbrev pub invariant-loop-place : goal.invariant-loop-place

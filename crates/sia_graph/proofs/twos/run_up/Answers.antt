@@ -1,7 +1,7 @@
 use Rattle.std.proofs.Common.{◌<◌, length, arith}
 use Rattle.sia_parts.proofs.EdgeRows.Room.{one_count}
 use Rattle.sia_graph.proofs.TwoLeast.EnteredTwos.{run_first, run_next}
-use Rattle.sia_graph.proofs.Shared.PositionTwos.{below_positions}
+use Rattle.sia_graph.proofs.Shared.EarlierSources.{below_positions}
 use Rattle.sia_graph.proofs.twos.run_up.Goals as goal
 
 pub position_before-requires : goal.position_before-requires

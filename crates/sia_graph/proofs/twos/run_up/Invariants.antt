@@ -1,7 +1,6 @@
 use Rattle.std.proofs.Common.{ℕ, ◌<◌, List}
 use Rattle.sia_graph.specs.Twos.{AreTwosOf}
-use Rattle.sia_graph.proofs.TwoLeast.BlockTwos.{At}
-use Rattle.sia_graph.proofs.TwoLeast.EnteredTwos.{IsUpRun}
+use Rattle.sia_graph.proofs.TwoLeast.EnteredTwos.{IsUpRun, At}
 use Rattle.sia_graph.proofs.twos.run_up.Given as goal
 
 abbrev pub invariant-loop-position : goal.invariant-loop-position

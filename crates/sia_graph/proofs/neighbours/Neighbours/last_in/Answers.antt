@@ -7,10 +7,10 @@ use Rattle.sia_parts.specs.Sights.{FromSome}
 use Rattle.sia_parts.proofs.Shared.Adding.{FromFirst, first_more}
 use Rattle.sia_graph.specs.declared.neighbours.Neighbour.{Neighbour}
 use Rattle.sia_graph.specs.declared.neighbours.Role.TheVariants.{In}
-use Rattle.sia_graph.proofs.OfPivots.EarlyOuts.{last_same, role_same, same_role}
+use Rattle.sia_graph.proofs.OfPivots.PivotRows.{last_same, role_same, same_role}
 use Rattle.sia_graph.specs.Found.{InCommits}
 use Rattle.sia_graph.proofs.OfPivots.Outs.{first_all}
-use Rattle.sia_graph.proofs.OfPivots.Overlaps.{lived}
+use Rattle.sia_graph.proofs.OfPivots.Vulnerable.{lived}
 use Rattle.sia_events.specs.Transactions.{CommitsAt}
 use Rattle.sia_graph.proofs.SsiTest.Entering.{last_either}
 use Rattle.sia_parts.proofs.Shared.OneNumber.{one_committed as one_txn_at}

@@ -11,9 +11,9 @@ use Rattle.sia_graph.specs.declared.neighbours.Neighbour.{Neighbour}
 use Rattle.sia_graph.specs.declared.neighbours.Role.TheVariants.{In, Out, First}
 use Rattle.sia_graph.specs.Found.{is_out}
 use Rattle.sia_graph.specs.Neighbours.{HasRole}
-use Rattle.sia_graph.proofs.OfPivots.EarlyOuts.{IsFirstOf, all_firsts, early, front_is, out_is, outs_most, outs_rise, role_same, same_role}
+use Rattle.sia_graph.proofs.OfPivots.PivotRows.{IsFirstOf, all_firsts, early, front_is, out_is, outs_most, outs_rise, role_same, same_role}
 use Rattle.sia_graph.proofs.OfPivots.Outs.{first_all}
-use Rattle.sia_graph.proofs.OfPivots.Overlaps.{lived}
+use Rattle.sia_graph.proofs.OfPivots.Vulnerable.{lived}
 use Rattle.sia_graph.proofs.neighbours.Neighbours.put_firsts.Goals.{After-eq, then-eq+then-lifetimes-txn, else-eq, else-eq-via-then-eq+else-lifetimes-txn, else-eq-via-else-eq}
 use Rattle.sia_graph.proofs.neighbours.Neighbours.put_firsts.Goals as goal
 

@@ -4,7 +4,7 @@ use Rattle.sia_parts.specs.Sights.{Adds}
 use Rattle.sia_parts.proofs.Shared.Adding.{FromFirst}
 use Rattle.sia_graph.specs.declared.neighbours.Neighbour.{Neighbour}
 use Rattle.sia_graph.specs.Found.{is_out}
-use Rattle.sia_graph.proofs.OfPivots.EarlyOuts.{IsFirstOf}
+use Rattle.sia_graph.proofs.OfPivots.PivotRows.{IsFirstOf}
 use Rattle.sia_graph.proofs.neighbours.Neighbours.put_firsts.Given as goal
 
 abbrev pub invariant-loop-i : goal.invariant-loop-i

@@ -6,7 +6,7 @@ use Rattle.sia_index.specs.declared.info.Lifetime.{Lifetime}
 use Rattle.sia_index.proofs.Answering.Table.{overlap_by}
 use Rattle.sia_parts.proofs.Shared.Adding.{adds_nothing, adds_push}
 use Rattle.sia_graph.specs.declared.neighbours.Neighbour.{Neighbour}
-use Rattle.sia_graph.proofs.OfPivots.Overlaps.{lived}
+use Rattle.sia_graph.proofs.OfPivots.Vulnerable.{lived}
 use Rattle.sia_graph.proofs.neighbours.Neighbours.put_if_overlaps.Goals.{else-other-number-via-then-other-number+else-overlap, else-other-number-via-else-other-number}
 use Rattle.sia_graph.proofs.neighbours.Neighbours.put_if_overlaps.Goals as goal
 

@@ -2,9 +2,9 @@
 use Rattle.std.proofs.Common.{◌-◌, ◌∙◌, length, refl, sym, subst, arith}
 use Rattle.sia_index.specs.Numbers.{IsCommittedAt}
 use Rattle.sia_graph.proofs.OfPivots.Outs.{OverlapsAt, OverlapsUpTo, IsOut, outs_both, outs_same, puts_like, puts_none, puts_then, put_maker, up_to_last, up_to_next, up_to_none}
-use Rattle.sia_graph.proofs.OfPivots.Overlaps.{maker_is}
+use Rattle.sia_graph.proofs.OfPivots.Vulnerable.{maker_is}
 use Rattle.sia_graph.proofs.Shared.Numbered.{commits_at}
-use Rattle.sia_graph.proofs.Shared.PositionTwos.{positions_below}
+use Rattle.sia_graph.proofs.Shared.EarlierSources.{positions_below}
 use Rattle.sia_parts.proofs.EdgeRows.PositionOrder.{by_commit as commits_less}
 use Rattle.sia_graph.proofs.neighbours.Neighbours.put_makers.Goals as goal
 

@@ -12,8 +12,7 @@ use Rattle.sia_graph.specs.Found.{AreEnds, InCommits}
 use Rattle.sia_graph.specs.Late.{IsLastOf}
 use Rattle.sia_graph.specs.Links.{IsVulnerableAt}
 use Rattle.sia_graph.specs.Neighbours.{HasRole}
-use Rattle.sia_graph.proofs.OfPivots.EarlyOuts.{few_outs, few_within}
-use Rattle.sia_graph.proofs.OfPivots.PivotRows.{all_neighbours, both_pivot, ends_at, ends_of, no_neighbours, none_in, none_made, none_out, rows_apart, same_ends, same_last, sorted_rows}
+use Rattle.sia_graph.proofs.OfPivots.PivotRows.{all_neighbours, both_pivot, ends_at, ends_of, no_neighbours, none_in, none_made, none_out, rows_apart, same_ends, same_last, sorted_rows, few_outs, few_within}
 use Rattle.sia_graph.proofs.neighbours.Neighbours.put_of.Goals.{After-put_ins, After-sort}
 use Rattle.sia_graph.proofs.neighbours.Neighbours.put_of.Goals as goal
 

@@ -2,10 +2,9 @@ use Rattle.std.proofs.Common.{◌≡◌, ◌≢◌, ◌<◌, ◌≤◌, ◌+◌,
 use Rattle.std.proofs.lemmas.Bool.{cases_lt}
 use Rattle.sia_graph.specs.Twos.{IsBeforeVersion, IsLeastNumber, IsLeftMaker, IsLeftPasser, IsLeftReader, IsTwo, IsUpTo}
 use Rattle.sia_graph.specs.declared.twos.Two.{Two}
-use Rattle.sia_graph.proofs.Shared.EarlierSources.{SawBelow, before_version, key_within, none_saw, saw_below}
+use Rattle.sia_graph.proofs.Shared.EarlierSources.{SawBelow, before_version, key_within, none_saw, saw_below, before_less, positions_below}
 use Rattle.sia_graph.proofs.Shared.LeastNumbers.{least_none, other_of}
-use Rattle.sia_graph.proofs.Shared.PositionTwos.{before_less, positions_below}
-use Rattle.sia_graph.proofs.TwoLeast.BlockTwos.{IsRising, rises_from, rises_on, risen}
+use Rattle.sia_graph.proofs.TwoLeast.EnteredTwos.{IsRising, rises_from, rises_on, risen}
 use Rattle.sia_graph.proofs.twos.Earlier.least_before.Goals.{In-loop-block, in-Some, in-None, then-key-self, else-key-self}
 use Rattle.sia_graph.proofs.twos.Earlier.least_before.Goals as goal
 

@@ -1,5 +1,5 @@
 use Rattle.std.proofs.Common.{◌≡◌, ◌<◌, ◌≤◌, ◌+◌, ◌*◌}
-use Rattle.sia_graph.proofs.TwoLeast.BlockTwos.{IsRising}
+use Rattle.sia_graph.proofs.TwoLeast.EnteredTwos.{IsRising}
 use Rattle.sia_graph.proofs.twos.Earlier.least_before.Given as goal
 
 abbrev pub invariant-loop-block : goal.invariant-loop-block

@@ -6,9 +6,8 @@ use Rattle.sia_parts.specs.Accesses.{SawPosition}
 use Rattle.sia_parts.specs.Sights.{FromSome}
 use Rattle.sia_graph.specs.Twos.{IsLeastNumber, IsLeftMaker, IsLeftSource, IsTwo, IsUpTo}
 use Rattle.sia_graph.proofs.Shared.AccessLists.{saw_is, saw_position}
-use Rattle.sia_graph.proofs.Shared.EarlierSources.{OfEither, OfMade, OfSeen, sources_are}
+use Rattle.sia_graph.proofs.Shared.EarlierSources.{OfEither, OfMade, OfSeen, sources_are, positions_below}
 use Rattle.sia_graph.proofs.Shared.LeastNumbers.{first_least, least_join, least_none, other_of}
-use Rattle.sia_graph.proofs.Shared.PositionTwos.{positions_below}
 use Rattle.sia_graph.proofs.twos.Earlier.least_source.Goals as goal
 
 pub least_before-requires-clause-position : goal.least_before-requires-clause-position
