@@ -1,4 +1,3 @@
-pub mod LinkLists
 pub mod ListedAs
 pub mod Outs
 pub mod Picked

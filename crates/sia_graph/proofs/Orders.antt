@@ -1,6 +1,5 @@
 pub mod Chains
 pub mod DoneNodes
-pub mod Mapped
 pub mod Pending
 pub mod ReadySets
 pub mod Released

@@ -15,7 +15,6 @@ pub mod MemberSteps
 pub mod NoFirsts
 pub mod NoStuckSet
 pub mod Numbered
-pub mod OrderPlaces
 pub mod PartedLists
 pub mod PositionEdges
 pub mod Positions

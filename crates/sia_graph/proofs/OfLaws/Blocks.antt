@@ -9,8 +9,7 @@ use Rattle.sia_graph.specs.Closures.{IsOrderBy, IsLeastBy, IsStuckBy}
 use Rattle.sia_graph.specs.Blocks.{IsWayThrough, LeadsThrough, IsMemberOf, without_blocks, HasBlocks, SettlesMembers}
 use Rattle.sia_graph.proofs.Shared.Ways.{Reaches, join}
 use Rattle.sia_graph.proofs.Shared.Closures.{keeps_ways, fed_stuck}
-use Rattle.sia_graph.proofs.Shared.OrderPlaces.{in_contains, once_pairs, ahead_stands}
-use Rattle.sia_graph.proofs.Shared.PartedLists.{contains_in, stands_ahead, pairs_once, ahead_first, ahead_second, in_left, in_right, in_cases, ahead_left, ahead_right, ahead_across, ahead_cases, once_split, once_join, precedes_after, IsParted, parted, filter_parted, filter_in, in_filter, ahead_filter, GoesOnBelow, split}
+use Rattle.sia_graph.proofs.Shared.PartedLists.{contains_in, stands_ahead, pairs_once, ahead_first, ahead_second, in_left, in_right, in_cases, ahead_left, ahead_right, ahead_across, ahead_cases, once_split, once_join, precedes_after, IsParted, parted, filter_parted, filter_in, in_filter, ahead_filter, GoesOnBelow, split, in_contains, once_pairs, ahead_stands}
 use Rattle.sia_graph.proofs.Shared.ReadyOrders.{In, IsAhead, IsOnce}
 
 module _ (floor : ℕ) where

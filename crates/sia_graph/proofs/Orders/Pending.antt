@@ -1,12 +1,28 @@
+-- The names of the nodes of a front that are no blocks, made one after the other.
 -- What is still to be taken from the counts of nodes, in other words.
-use Rattle.std.proofs.Common.{◌≡◌, ℕ, suc, ◌+◌, ◌<◌, Bool, cond, List, length, get_or, drop, eqb, nat_lt, refl, ap, sym, ◌∙◌, arith}
-use Rattle.std.proofs.lemmas.Bool.{cases_lt, eq-eqb, le-ltb, lt-ltb, ne_eqb}
-use Rattle.std.proofs.lemmas.List.{drop_more}
+use Rattle.std.proofs.Common.{◌≡◌, ℕ, ◌<◌, ◌≤◌, Bool, true, false, not, cond, List, [], ◌∷◌, ◌++◌, map, nat_lt, append-nil, ap, sym, ◌∙◌, suc, ◌+◌, length, get_or, drop, eqb, refl, arith}
+use Rattle.std.proofs.lemmas.Bool.{le-ltb, lt-ltb, not_from_false, not_from_true, cases_lt, eq-eqb, ne_eqb}
+use Rattle.std.proofs.lemmas.List.{map-append, drop_more}
+use Rattle.std.proofs.lemmas.List.Elements.{filter-append}
+use Rattle.sia_graph.specs.Blocks.{without_blocks}
 use Rattle.sia_graph.specs.UnderWay.{IsOneFewer, IsTaking, times}
 use Rattle.sia_graph.specs.declared.order.Graph.{Graph}
 use Rattle.sia_graph.specs.declared.order.Taking.{Taking}
 use Rattle.sia_graph.proofs.Shared.Counted.{count_first, count_later}
 use Rattle.sia_graph.proofs.Orders.UnderWay.{as_pending}
+
+-- one node more
+module _ (floor : ℕ) (f : ℕ → ℕ) (front : List ℕ) (t : ℕ) (names : List ℕ) (are : names ≡ map f (without_blocks floor front)) where
+  grown : (keep : Bool) → not (nat_lt t floor) ≡ keep → without_blocks floor (front ++ t ∷ []) ≡ without_blocks floor front ++ cond keep (t ∷ []) []
+  grown keep is = filter-append (λ u. not (nat_lt u floor)) front (t ∷ []) ∙ ap (λ b. without_blocks floor front ++ cond b (t ∷ []) []) is
+
+  pub member_more : floor ≤ t → (more : List ℕ) → more ≡ names ++ f t ∷ [] → more ≡ map f (without_blocks floor (front ++ t ∷ []))
+  member_more no_block more pushed =
+      pushed ∙ ap (λ l. l ++ f t ∷ []) are
+      ∙ sym (ap (map f) (grown true (not_from_false (nat_lt t floor) (le-ltb t floor no_block))) ∙ map-append f (without_blocks floor front) (t ∷ []))
+
+  pub block_more : t < floor → names ≡ map f (without_blocks floor (front ++ t ∷ []))
+  block_more block = are ∙ ap (map f) (sym (grown false (not_from_true (nat_lt t floor) (lt-ltb t floor block)) ∙ append-nil (without_blocks floor front)))
 
 pub as_taking : (g : Graph) (done : List Bool) (k : Taking) (pending same : ℕ → ℕ) (waking : ℕ) → ((t : ℕ) → t < length k.counts.items → pending t ≡ same t)
     → IsTaking g done k pending waking → IsTaking g done k same waking

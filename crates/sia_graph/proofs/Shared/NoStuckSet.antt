@@ -19,7 +19,7 @@ use Rattle.sia_graph.proofs.Shared.Facts.{same_committer, committed_positive, Li
 use Rattle.sia_graph.proofs.Shared.Due.{saw_due}
 use Rattle.sia_graph.proofs.Shared.EdgesDecided.{rw_decided}
 use Rattle.sia_graph.proofs.Shared.ReadyOrders.{In, IsFed}
-use Rattle.sia_graph.proofs.Shared.OrderPlaces.{order_exists}
+use Rattle.sia_graph.proofs.Shared.PartedLists.{order_exists}
 
 module _ (h : List Event) (wf : IsWellFormed h) where
   pub starts_lt : (t u s c : ℕ) → StartsAt h t s → CommitsAt h u c → StartsBeforeCommit h t u → s < c

@@ -5,8 +5,7 @@ use Rattle.std.proofs.lemmas.Bool.{cases_order}
 use Rattle.sia_events.specs.Lists.{Precedes}
 use Rattle.sia_graph.specs.Closures.{IsOrderBy, IsLeastBy, IsFedBy, IsStuckBy}
 use Rattle.sia_graph.specs.StandIns.{IsNameOf, NamesAscend, LeadsByName}
-use Rattle.sia_graph.proofs.Shared.OrderPlaces.{in_contains, once_pairs, ahead_stands}
-use Rattle.sia_graph.proofs.Shared.PartedLists.{contains_in, stands_ahead, pairs_once}
+use Rattle.sia_graph.proofs.Shared.PartedLists.{contains_in, stands_ahead, pairs_once, in_contains, once_pairs, ahead_stands}
 use Rattle.sia_graph.proofs.Shared.ReadyOrders.{In, IsAhead, IsOnce}
 
 module _ (name : ℕ → ℕ) where

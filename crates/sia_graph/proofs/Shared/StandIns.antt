@@ -15,8 +15,7 @@ use Rattle.sia_graph.specs.StandIns.{IsNameOf, LeadsByName, NamesAscend, StandFo
 use Rattle.sia_graph.proofs.Shared.Closures.{settles_alike}
 use Rattle.sia_graph.proofs.OfLaws.Blocks.{settles_members, through_joins}
 use Rattle.sia_graph.proofs.Shared.Fronts.{no_order}
-use Rattle.sia_graph.proofs.Shared.OrderPlaces.{in_contains}
-use Rattle.sia_graph.proofs.Shared.PartedLists.{contains_in}
+use Rattle.sia_graph.proofs.Shared.PartedLists.{contains_in, in_contains}
 use Rattle.sia_graph.proofs.Shared.Renamed.{in_map, least_named, stuck_named}
 
 by_kind : (h : List Event) (kind : Kind) (t u k : ℕ) → EdgeOfKind h kind t u k → IsCommitted h u

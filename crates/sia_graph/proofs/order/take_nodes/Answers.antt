@@ -10,8 +10,7 @@ use Rattle.sia_graph.specs.UnderWay.{IsBehind, IsDone, IsLastFront, IsReadyIn, I
 use Rattle.sia_graph.specs.declared.order.Taking.{Taking}
 use Rattle.sia_graph.specs.NarrowSteps.{name_of}
 use Rattle.sia_graph.proofs.Orders.DoneNodes.{done_ready, done_under_way}
-use Rattle.sia_graph.proofs.Orders.Mapped.{block_more, member_more}
-use Rattle.sia_graph.proofs.Orders.Pending.{as_taking, first_fewer, not_yet}
+use Rattle.sia_graph.proofs.Orders.Pending.{as_taking, first_fewer, not_yet, block_more, member_more}
 use Rattle.sia_graph.proofs.Orders.StuckNodes.{left_nodes, whole_order}
 use Rattle.sia_graph.proofs.Orders.TakenFronts.{fewer_left, front_taken, last_front, no_front, ready_left, ready_within}
 use Rattle.sia_graph.proofs.order.take_nodes.Goals.{After-all, In-Some, In_default, then-node-floor+in_ok-push, else-node-floor}

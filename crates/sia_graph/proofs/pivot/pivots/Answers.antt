@@ -19,9 +19,8 @@ use Rattle.sia_graph.specs.declared.pivot.Pivot.{Pivot}
 use Rattle.sia_graph.specs.Links.{IsVulnerableAt, ListsLinks, link_rank}
 use Rattle.sia_graph.specs.Pivots.{ListsNeighbours}
 use Rattle.sia_graph.proofs.OfPivots.ListedAs.{listed_as, listed_in_order}
-use Rattle.sia_graph.proofs.OfPivots.LinkLists.{by_link, dealt_listed, length-dealt, link_before, some_link}
 use Rattle.sia_graph.proofs.OfPivots.Picked.{all_picked, picked_more, picked_same}
-use Rattle.sia_graph.proofs.OfPivots.Vulnerable.{IsLinkOf, ins_named, is_pivot, links_of_edges, outs_named, source_committed}
+use Rattle.sia_graph.proofs.OfPivots.Vulnerable.{IsLinkOf, ins_named, is_pivot, links_of_edges, outs_named, source_committed, by_link, dealt_listed, length-dealt, link_before, some_link}
 use Rattle.sia_graph.proofs.Shared.AscendingIds.{found_position, ids_rise}
 use Rattle.sia_graph.proofs.Shared.Numbered.{txn_number}
 use Rattle.sia_parts.proofs.EdgeRows.Readings.{few_txns}
