@@ -17,7 +17,7 @@ pub trait Named {
 const WAYS: usize = 8;
 
 /// The least table has room for so many rows, and the greatest for so many. Each has a power of two of homes.
-const LEAST_ROWS: usize = 256;
+const LEAST_ROWS: usize = 512;
 
 /// No table of a log has more rows.
 pub(crate) const MOST_ROWS: usize = 536_870_912;
@@ -122,15 +122,16 @@ impl Finder {
             → OnOk result (Finds self.new (map R.named rows.now)) }
     {
         if self.slots.len() / 2 < rows.len() {
-            self.restart(rows.len())?;
+            self.restart(rows.len(), first)?;
             return self.put_from(rows, 0);
         }
         self.put_from(rows, first)
     }
 
-    /// An empty table with room for several times so many rows, so that few are taken in anew.
-    fn restart(&mut self, rows: usize) -> Result<(), AllocError> {
-        let homes = (rows.clamp(LEAST_ROWS, MOST_ROWS) * 4).next_power_of_two();
+    /// An empty table with room for so many rows, or where there were some before for several times as many.
+    fn restart(&mut self, rows: usize, before: usize) -> Result<(), AllocError> {
+        let room = if before == 0 { 2 } else { 4 };
+        let homes = (rows.clamp(LEAST_ROWS, MOST_ROWS) * room).next_power_of_two();
         self.slots = vec![in self.alloc; 0u32; homes + WAYS]?;
         self.mask = (homes - 1) as u32;
         self.tree = BTreeMap::new(self.alloc);
