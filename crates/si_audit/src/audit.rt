@@ -1,6 +1,7 @@
 //! How a history is audited.
 ghost use Rattle.std.specs.Prelude.{◌≡◌, ◌<◌, ◌≤◌, ⊤, ℕ, List, length, IfOk, IsTrue};
 ghost use Rattle.sia_parts.specs.Accesses.{AreAccesses};
+ghost use Rattle.sia_parts.specs.Gathering.{IsGathering};
 ghost use Rattle.sia_parts.specs.Parts.{IsCutting};
 ghost use Rattle.sia_graph.specs.Judgements.{IsJudgement};
 ghost use Rattle.sia_graph.specs.Verdicts.{IsOrderVerdict};
@@ -11,15 +12,15 @@ use crate::crew::{Auditing, Crew, InThreads};
 use crate::options::Options;
 use sia_events::{History, Log, NoMemory};
 use sia_graph::{Judgement, judge, pivots};
-use sia_index::Index;
 use sia_index::make::index_log;
+use sia_index::{Index, counted};
 use sia_parts::{Accesses, Findings, Gathering, Part, Reads, edges_at, even_cutting};
 use std::alloc::Global;
 use std::sync::Wait;
 use std::thread::Threads;
 
 /// The parts that the options name, or where they name no cut, even ones for several workers.
-fn parts_for(alloc: Global, log: &Log, o: &Options, workers: u8) -> Result<Vec<Part>, NoMemory>
+pub fn parts_for(alloc: Global, log: &Log, o: &Options, workers: u8) -> Result<Vec<Part>, NoMemory>
     ensures cutting { IfOk result (λ parts. (points : List ℕ) × IsCutting points parts.items) }
     ensures few { IfOk result (λ parts. length parts.items ≤ 1024) }
 {
@@ -29,22 +30,19 @@ fn parts_for(alloc: Global, log: &Log, o: &Options, workers: u8) -> Result<Vec<P
     even_cutting(alloc, log, u16::from(workers))
 }
 
-/// Judges the history of a log by its index and by a crew. Beside the judgement stands what its edges are made from.
-fn judged<C: Crew>(
+/// What a crew finds at all keys in the history of a log, by its index.
+pub(crate) fn found_in<C: Crew>(
     crew: &C,
     alloc: Global,
     log: &Log,
     ix: &Index,
     parts: &[Part],
-) -> Result<(Judgement, Accesses), NoMemory>
+) -> Result<Gathering, NoMemory>
     requires ready { C.ready crew.now }
     requires index { ix.now ≡ log.now }
     requires cutting { (points : List ℕ) × IsCutting points parts.now }
     requires few { length parts.now ≤ 1024 }
-    ensures exact { IfOk result (λ (j, accesses). IsJudgement log.now j) }
-    ensures pass { IfOk result (λ (j, accesses). IsTrue j.pass
-        → IsTrue j.serializable × IsOrderVerdict j.verdict) }
-    ensures accesses { IfOk result (λ (j, accesses). AreAccesses ix.now (λ _. ⊤) accesses) }
+    ensures { IfOk result (λ found. IsGathering ix.now found) }
 {
     log.law();
     let reads = Reads::of(alloc, log, parts)?;
@@ -59,24 +57,7 @@ fn judged<C: Crew>(
     let Ok(parts) = crew.find(alloc, count, &job) else {
         return Err(NoMemory);
     };
-    judge(alloc, log, ix, Gathering::of(alloc, ix, parts)?)
-}
-
-/// The same in the parts that the options name, or in even ones.
-pub(crate) fn judged_in_parts<C: Crew>(
-    crew: &C,
-    alloc: Global,
-    log: &Log,
-    ix: &Index,
-    o: &Options,
-) -> Result<(Judgement, Accesses), NoMemory>
-    requires ready { C.ready crew.now }
-    requires index { ix.now ≡ log.now }
-    ensures exact { IfOk result (λ (j, accesses). IsJudgement log.now j) }
-    ensures accesses { IfOk result (λ (j, accesses). AreAccesses ix.now (λ _. ⊤) accesses) }
-{
-    let parts = parts_for(alloc, log, o, crew.workers())?;
-    judged(crew, alloc, log, ix, &parts)
+    Ok(Gathering::of(alloc, ix, parts)?)
 }
 
 /// Audits a history by workers, and waits for them. What it answers depends on the history alone.
@@ -93,7 +74,8 @@ pub fn audit<R: Threads + Wait + Sync>(
     let ix = index_log(alloc, log)?;
     let workers = o.workers();
     let crew = InThreads { rt, workers };
-    let (j, accesses) = judged(&crew, alloc, log, &ix, o.parts())?;
+    let found = found_in(&crew, alloc, log, &ix, o.parts())?;
+    let (j, accesses) = judge(alloc, counted(log), &ix, found)?;
     audit_of(alloc, &ix, j, &accesses)
 }
 

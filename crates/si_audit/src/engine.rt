@@ -1,5 +1,5 @@
 //! The engine: a text goes in, a report comes out, and it knows no device.
-ghost use Rattle.std.specs.Prelude.{◌≡◌, ◌+◌, ◌<◌, ◌≤◌, ◌++◌, ℕ, List, [], ⊤, flat_map, length, vec_capacity, IfOk, MatchOption, OnOk, IsFalse, IsTrue, ◌↔◌};
+ghost use Rattle.std.specs.Prelude.{◌≡◌, ◌+◌, ◌<◌, ◌≤◌, ◌++◌, ℕ, List, [], ⊤, flat_map, length, vec_capacity, IfOk, IfSome, IsSome, MatchOption, OnOk, IsFalse, IsTrue, ◌↔◌};
 ghost use Rattle.sia_events.specs.Limits.{Limits};
 ghost use Rattle.si_audit.specs.Options.{Choices};
 ghost use Rattle.si_audit.specs.Engine.{AreLinesOf, EndsFed, HasText, IsFed, TellsFed, IsReceived, IsReportOf, IsOutcomeOf};
@@ -14,10 +14,11 @@ ghost use Rattle.sia_events.specs.Streaming.{Progress};
 ghost use Rattle.sia_events.specs.declared.fault.TextFault.{TextFault};
 ghost use Rattle.si_audit.specs.declared.options.Form.{Form};
 ghost use Rattle.sia_graph.specs.Judgements.{IsJudgement};
+ghost use Rattle.sia_parts.specs.Gathering.{IsGathering};
 ghost use Rattle.sia_parts.specs.Accesses.{AreAccesses};
 
 use crate::answer::{Answer, Found, Report};
-use crate::audit::judged_in_parts;
+use crate::audit::{found_in, parts_for};
 use crate::crew::{Alone, Crew, InThreads};
 use crate::edge_lines::EdgeLines;
 use crate::explain::{explained, push_place};
@@ -29,10 +30,10 @@ use crate::sheet::give_front;
 use crate::snapshots::is_generalized;
 use crate::spelled::Spelled;
 use sia_events::{Locator, Log, NoMemory, TextFault, TextReader};
-use sia_graph::{Judgement, Pivot, listing_law};
-use sia_index::Index;
+use sia_graph::{Judgement, Pivot, judge, listing_law};
 use sia_index::make::index_log;
-use sia_parts::{Accesses, Edge};
+use sia_index::{Index, counted};
+use sia_parts::{Accesses, Edge, Gathering};
 use std::alloc::Global;
 use std::sync::Wait;
 use std::thread::Threads;
@@ -87,7 +88,7 @@ impl<'a> Auditor<'a> {
         ensures outcome { IfOk result (EndsFed self.entry) }
     {
         match self.text.finish_log() {
-            Ok(log) => report_of_log(crew, alloc, log, self.options),
+            Ok(log) => report_of(crew, alloc, log, self.options),
             Err(fault) => match &fault {
                 TextFault::NoMemory => Err(NoMemory),
                 _ => report_of_refusal(alloc, &fault, &self.locator, self.options),
@@ -192,55 +193,64 @@ fn outcome_where(meets: bool) -> Outcome
 }
 
 /// The report of the history of a log, in the form asked for, and the outcome at the level. Makes no edge.
-fn report_of_log<C: Crew>(
-    crew: &C,
-    alloc: Global,
-    log: Log,
-    o: &Options,
-) -> Result<Answer, NoMemory>
+fn report_of<C: Crew>(crew: &C, alloc: Global, log: Log, o: &Options) -> Result<Answer, NoMemory>
     requires { C.ready crew.now }
     ensures report { IfOk result (λ a. (bytes : List ℕ) × IsReportOf o.now.form log bytes × HasText a bytes) }
     ensures outcome { IfOk result (λ a. IsOutcomeOf o.now.level log a.outcome) }
 {
     let index = index_log(alloc, &log)?;
-    let (judgement, accesses) = judged_in_parts(crew, alloc, &log, &index, o)?;
-    report_of_judgement(alloc, log, index, &judgement, accesses, o)
+    let parts = parts_for(alloc, &log, o, crew.workers())?;
+    let found = found_in(crew, alloc, &log, &index, &parts)?;
+    report_of_found(alloc, log, index, found, o)
 }
 
-/// The same, where the history is judged.
-fn report_of_judgement(
+/// The log, if the form or the level asks for it. Else what the verdict is found with takes the memory where it stood.
+fn kept(log: Log, o: &Options) -> Option<Log>
+    ensures same { IfSome result (λ kept. kept ≡ log) }
+    ensures explained { o.now.form ≡ Form.Explained → IsSome result }
+    ensures generalized { o.now.level ≡ Level.Gsi → IsSome result }
+{
+    if o.form() == Form::Explained || o.level() == Level::Gsi {
+        return Some(log);
+    }
+    None
+}
+
+fn report_of_found(
     alloc: Global,
     log: Log,
     index: Index,
-    j: &Judgement,
-    accesses: Accesses,
+    found: Gathering,
     o: &Options,
 ) -> Result<Answer, NoMemory>
     requires index { index ≡ log }
-    requires judgement { IsJudgement log j.now }
-    requires accesses { AreAccesses index (λ _. ⊤) accesses }
+    requires found { IsGathering index found }
     ensures report { IfOk result (λ a. (bytes : List ℕ) × IsReportOf o.now.form log bytes × HasText a bytes) }
     ensures outcome { IfOk result (λ a. IsOutcomeOf o.now.level log a.outcome) }
 {
-    let outcome = outcome_of(alloc, &log, &index, j, o.level())?;
-    report_in(alloc, o.form(), outcome, log, index, j, accesses)
+    let counts = counted(&log);
+    let log = kept(log, o);
+    let (judgement, accesses) = judge(alloc, counts, &index, found)?;
+    let outcome = outcome_of(alloc, log.as_ref(), &index, &judgement, o.level())?;
+    report_in(alloc, o.form(), outcome, log, index, &judgement, accesses)
 }
 
 /// How the run of a history ends at the level.
 fn outcome_of(
     alloc: Global,
-    log: &Log,
+    log: Option<&Log>,
     ix: &Index,
     j: &Judgement,
     level: Level,
 ) -> Result<Outcome, NoMemory>
-    requires index { ix.now ≡ log.now }
-    requires judgement { IsJudgement log.now j.now }
-    ensures { IfOk result (IsOutcomeOf level log.now) }
+    requires log { IfSome log (λ log. log.now ≡ ix.now) }
+    requires kept { level ≡ Level.Gsi → IsSome log }
+    requires judgement { IsJudgement ix.now j.now }
+    ensures { IfOk result (IsOutcomeOf level ix.now) }
 {
     let meets = match meets(j, level) {
         Some(meets) => meets,
-        None => is_generalized(alloc, log, ix, j)?,
+        None => is_generalized(alloc, log.unwrap(), ix, j)?,
     };
     Ok(outcome_where(meets))
 }
@@ -250,43 +260,26 @@ fn report_in(
     alloc: Global,
     form: Form,
     outcome: Outcome,
-    log: Log,
+    log: Option<Log>,
     index: Index,
     j: &Judgement,
     accesses: Accesses,
 ) -> Result<Answer, NoMemory>
-    requires index { index ≡ log }
-    requires judgement { IsJudgement log j.now }
+    requires log { IfSome log (λ log. log ≡ index) }
+    requires kept { form ≡ Form.Explained → IsSome log }
+    requires judgement { IsJudgement index j.now }
     requires accesses { AreAccesses index (λ _. ⊤) accesses }
-    ensures report { IfOk result (λ a. (bytes : List ℕ) × IsReportOf form log bytes × HasText a bytes) }
+    ensures report { IfOk result (λ a. (bytes : List ℕ) × IsReportOf form index bytes × HasText a bytes) }
     ensures outcome { IfOk result (λ a. a.outcome ≡ outcome) }
 {
     match form {
-        Form::Full => {
-            drop(log);
-            in_full(alloc, outcome, j, index, accesses)
+        Form::Full => in_full(alloc, outcome, j, index, accesses),
+        Form::Brief => in_brief(alloc, outcome, j, index),
+        Form::Explained => {
+            let sheet = explained(alloc, &log.unwrap(), &index, j, &accesses)?;
+            Ok(one_sheet(alloc, outcome, sheet))
         }
-        Form::Brief => in_brief(alloc, outcome, j, &log),
-        Form::Explained => in_reasons(alloc, outcome, j, &log, &index, &accesses),
     }
-}
-
-fn in_reasons(
-    alloc: Global,
-    outcome: Outcome,
-    j: &Judgement,
-    log: &Log,
-    index: &Index,
-    accesses: &Accesses,
-) -> Result<Answer, NoMemory>
-    requires index { index.now ≡ log.now }
-    requires judgement { IsJudgement log.now j.now }
-    requires accesses { AreAccesses index.now (λ _. ⊤) accesses.now }
-    ensures report { IfOk result (λ a. (bytes : List ℕ) × IsReportOf Form.Explained log.now bytes × HasText a bytes) }
-    ensures outcome { IfOk result (λ a. a.outcome ≡ outcome) }
-{
-    let sheet = explained(alloc, log, index, j, accesses)?;
-    Ok(one_sheet(alloc, outcome, sheet))
 }
 
 fn in_full(
@@ -312,13 +305,14 @@ fn in_full(
     told(alloc, outcome, j, Some(found))
 }
 
-fn in_brief(alloc: Global, outcome: Outcome, j: &Judgement, log: &Log) -> Result<Answer, NoMemory>
-    requires { IsJudgement log.now j.now }
-    ensures report { IfOk result (λ a. (bytes : List ℕ) × IsReportOf Form.Brief log.now bytes × HasText a bytes) }
+fn in_brief(alloc: Global, outcome: Outcome, j: &Judgement, ix: Index) -> Result<Answer, NoMemory>
+    requires { IsJudgement ix j.now }
+    ensures report { IfOk result (λ a. (bytes : List ℕ) × IsReportOf Form.Brief ix bytes × HasText a bytes) }
     ensures outcome { IfOk result (λ a. a.outcome ≡ outcome) }
 {
-    log.law();
+    ix.law();
     listing_law();
+    drop(ix);
     told(alloc, outcome, j, None)
 }
 
@@ -336,26 +330,16 @@ fn told(
         → HasText a (lines.report_text form (account_with j.now es ps))) }
     ensures outcome { IfOk result (λ a. a.outcome ≡ outcome) }
 {
-    let (front, back) = sheets(alloc, j)?;
+    let mut front = Vec::new(alloc);
+    push_front(&mut front, None, j)?;
+    let mut back = Vec::new(alloc);
+    push_back(&mut back, &[], j.pass, j.serializable, &j.verdict)?;
     Ok(Answer {
         outcome,
         front,
         found,
         back,
     })
-}
-
-/// What stands before the lines of edges, and behind those of pivots.
-fn sheets(alloc: Global, j: &Judgement) -> Result<(Vec<u8>, Vec<u8>), NoMemory>
-    ensures { IfOk result (λ (front, back). (form : Form) (es : List Edge) (ps : List Pivot) (middle : List ℕ)
-        → middle ≡ flat_map lines.edge_line (lines.told form es) ++ flat_map lines.pivot_line (lines.told form ps)
-        → lines.report_text form (account_with j.now es ps) ≡ front.items ++ middle ++ back.items) }
-{
-    let mut front = Vec::new(alloc);
-    push_front(&mut front, None, j)?;
-    let mut back = Vec::new(alloc);
-    push_back(&mut back, &[], j.pass, j.serializable, &j.verdict)?;
-    Ok((front, back))
 }
 
 /// A report on one sheet.

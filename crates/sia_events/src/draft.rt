@@ -65,12 +65,12 @@ impl Draft {
     {
         Ok(Draft {
             tables: Tables {
+                events: Vec::with_capacity(alloc, rows)?,
                 txns: Vec::with_capacity(alloc, rows)?,
                 keys: Vec::with_capacity(alloc, rows)?,
                 writes: Vec::with_capacity(alloc, rows)?,
                 ranges: Vec::with_capacity(alloc, rows)?,
                 pairs: Vec::with_capacity(alloc, rows.saturating_mul(12))?,
-                events: Vec::with_capacity(alloc, rows)?,
             },
             txns: Finder::new(alloc, IN_ORDER),
             keys: Finder::new(alloc, SPREAD),

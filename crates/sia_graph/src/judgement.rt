@@ -3,6 +3,7 @@
 ghost use Rattle.std.specs.Prelude.{◌≡◌, ◌↔◌, [], ⊤, IfOk, IsTrue, MatchOption};
 ghost use Rattle.sia_events.specs.DangerousStructures.{NoFirst};
 ghost use Rattle.sia_events.specs.Isolation.{IsolationKept};
+ghost use Rattle.sia_index.specs.Counting.{AreCounts};
 ghost use Rattle.sia_parts.specs.Gathering.{IsGathering};
 ghost use Rattle.sia_parts.specs.Accesses.{AreAccesses};
 ghost use Rattle.sia_graph.specs.Dangerous.{IsDangerous};
@@ -19,8 +20,8 @@ use crate::order::{NONE, Taken, Txns, take_nodes};
 use crate::sparse::graph_of;
 use crate::ssi::{Dangerous, dangerous_of, passes};
 use crate::twos::Earlier;
-use sia_events::{Log, NoMemory};
-use sia_index::{Counts, Index, counted};
+use sia_events::NoMemory;
+use sia_index::{Counts, Index};
 use sia_parts::{Accesses, BadRead, BadWrite, Gathering, Unexplained};
 use std::alloc::Global;
 
@@ -48,18 +49,18 @@ impl Judgement {
 /// Judges a history by what was found at all its keys. Beside the judgement stands what its edges are told by.
 pub fn judge(
     alloc: Global,
-    log: &Log,
+    counts: Counts,
     ix: &Index,
     found: Gathering,
 ) -> Result<(Judgement, Accesses), NoMemory>
-    requires index { ix.now ≡ log.now }
-    requires found { IsGathering log.now found }
-    ensures exact { IfOk result (λ (j, accesses). IsJudgement log.now j) }
+    requires counts { AreCounts ix.now counts }
+    requires found { IsGathering ix.now found }
+    ensures exact { IfOk result (λ (j, accesses). IsJudgement ix.now j) }
     ensures pass { IfOk result (λ (j, accesses). IsTrue j.pass
         → IsTrue j.serializable × IsOrderVerdict j.verdict) }
     ensures accesses { IfOk result (λ (j, accesses). AreAccesses ix.now (λ _. ⊤) accesses) }
 {
-    log.law();
+    ix.law();
     let evidence = Evidence {
         index: ix,
         accesses: &found.accesses,
@@ -70,7 +71,7 @@ pub fn judge(
     replay_law();
     ssi_law();
     let judgement = Judgement {
-        counts: counted(log),
+        counts,
         bad_reads: found.bad_reads,
         bad_writes: found.bad_writes,
         unexplained: found.unexplained,

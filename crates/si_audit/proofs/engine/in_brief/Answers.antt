@@ -8,7 +8,7 @@ use Rattle.si_audit.proofs.engine.in_brief.Goals as goal
 
 pub returns-clause-report : goal.returns-clause-report
 returns-clause-report c =
-    let h = c.args.log.now in
+    let h = c.args.ix in
     let j = c.args.j.now in
     let (edges, pivots) = c.listing_law.ensures h c.law.ensures in
     let account = account_with j edges.0 pivots.0 in

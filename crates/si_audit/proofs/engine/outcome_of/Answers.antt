@@ -1,5 +1,6 @@
 -- How the run ends at a level.
-use Rattle.std.proofs.Common.{◌≡◌, ◌⊎◌, inl, inr, Bool, Option, None, Some, List, ◌↔◌, subst, sym, IsTrue, MatchOption}
+use Rattle.std.proofs.Common.{◌≡◌, ◌⊎◌, inl, inr, Bool, Option, None, Some, List, ◌↔◌, subst, sym}
+use Rattle.std.specs.Prelude.{IsTrue, MatchOption}
 use Rattle.sia_events.specs.declared.event.Event.{Event}
 use Rattle.si_audit.specs.declared.options.Level.{Level}
 use Rattle.si_audit.specs.declared.options.Level.TheVariants.{Gsi}
@@ -16,9 +17,9 @@ met h level answer meets told (inr (none, gsi)) =
 
 pub returns : goal.returns
 returns c =
-    let h = c.args.log.now in
+    let h = c.args.ix.now in
     let is = met h c.args.level c.meets.result c.match-meets.meets (c.meets.ensures h c.requires.judgement) (elim c.match-meets.branch [
       | in-Some w ↦ inl (_, w.in-Some.is, w.meets-is)
-      | in-None+in_ok-meets-in-None w ↦ inr (w.in-None.is, subst (λ (meets : Bool). IsTrue meets ↔ Meets Gsi h) (sym w.meets-is) w.in_ok-meets-in-None.ensures)
+      | in-None+in_ok-meets-in-None w ↦ let same = (rw w.unwrap.ensures at c.requires.log) in inr (w.in-None.is, subst (λ (of : List Event). IsTrue c.match-meets.meets ↔ Meets Gsi of) same (subst (λ (meets : Bool). IsTrue meets ↔ Meets Gsi w.unwrap.result.now) (sym w.meets-is) w.in_ok-meets-in-None.ensures))
     ]) in
     c.outcome_where.ensures c.args.level h is

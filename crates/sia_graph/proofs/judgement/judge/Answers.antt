@@ -6,10 +6,7 @@ use Rattle.sia_events.proofs.Shared.Faults.{true_false}
 use Rattle.sia_parts.specs.declared.finding.Unexplained.{Unexplained}
 use Rattle.sia_graph.specs.declared.judgement.Verdict.{Verdict}
 use Rattle.sia_graph.specs.declared.judgement.Verdict.TheVariants.{Order}
-use Rattle.sia_events.specs.DangerousStructures.{PassesSsi}
-use Rattle.sia_events.specs.Transactions.{IsCommitted}
-use Rattle.sia_parts.specs.Entries.{IsEdge}
-use Rattle.sia_graph.specs.Verdicts.{IsOrderVerdict, IsVerdict}
+use Rattle.sia_graph.specs.Verdicts.{IsOrderVerdict}
 use Rattle.sia_graph.proofs.OnEvidence.Judging.{passed_is_serializable, serializable_where}
 use Rattle.sia_graph.proofs.judgement.judge.Goals.{After-deref-2, After-ssi_law, in-Order, in_default, then-matches, else-matches}
 use Rattle.sia_graph.proofs.judgement.judge.Goals as goal
@@ -23,11 +20,11 @@ no_order verdict p q = grind arith
 pub passes-requires : goal.passes-requires
 passes-requires c = record {
   evidence = record {
-    well_formed = rw c.requires.index c.law.ensures;
-    accesses = rw c.requires.index c.requires.found.accesses;
+    well_formed = c.law.ensures;
+    accesses = c.requires.found.accesses;
   };
-  bad_reads = rw (c.requires.index, c.deref.ensures.value) c.requires.found.bad_reads;
-  bad_writes = rw (c.requires.index, c.deref-2.ensures.value) c.requires.found.bad_writes;
+  bad_reads = rw (c.deref.ensures.value) c.requires.found.bad_reads;
+  bad_writes = rw (c.deref-2.ensures.value) c.requires.found.bad_writes;
 }
 
 pub settle_accesses-requires : goal.settle_accesses-requires
@@ -50,27 +47,23 @@ serial c = elim c.match-matches.branch [
 
 pub returns-clause-exact : goal.returns-clause-exact
 returns-clause-exact c =
-    let h = c.args.log.now in
+    let h = c.args.ix.now in
     let wf = c.law.ensures in
     let is = c.requires.found in
-    let verdict = c.in_ok-verdict.verdict in
-    let verdict_is = subst (λ i. IsVerdict (IsCommitted i) (IsEdge i) verdict) c.requires.index c.in_ok-verdict.ensures in
+    let verdict = c.in_ok-verdict in
     record {
-      counts = c.counted.ensures;
+      counts = c.requires.counts;
       bad_reads = is.bad_reads;
       bad_writes = is.bad_writes;
       unexplained = is.unexplained;
-      pass = subst (λ i. IsTrue c.in_ok-pass.pass ↔ PassesSsi i) c.requires.index c.in_ok-pass.ensures;
-      serializable = serializable_where h wf verdict verdict_is c.args.found.unexplained.items is.unexplained (c.replay_law.ensures h wf) c.if-matches.serializable (serial (goal.at.returns-clause-exact c).After-ssi_law);
-      verdict = verdict_is;
+      pass = c.in_ok-pass.ensures;
+      serializable = serializable_where h wf verdict.verdict verdict.ensures c.args.found.unexplained.items is.unexplained (c.replay_law.ensures h wf) c.if-matches.serializable (serial (goal.at.returns-clause-exact c).After-ssi_law);
+      verdict = verdict.ensures;
     }
 
 pub returns-clause-pass : goal.returns-clause-pass
 returns-clause-pass c =
-    let h = c.args.log.now in
+    let h = c.args.ix.now in
     let wf = c.law.ensures in
-    let verdict = c.in_ok-verdict.verdict in
-    let verdict_is = subst (λ i. IsVerdict (IsCommitted i) (IsEdge i) verdict) c.requires.index c.in_ok-verdict.ensures in
-    let pass_is = subst (λ i. IsTrue c.in_ok-pass.pass ↔ PassesSsi i) c.requires.index c.in_ok-pass.ensures in
-    passed_is_serializable h wf verdict verdict_is c.args.found.unexplained.items c.requires.found.unexplained (c.ssi_law.ensures h wf)
-    c.if-matches.serializable c.in_ok-pass.pass (serial (goal.at.returns-clause-pass c).After-ssi_law) pass_is
+    passed_is_serializable h wf c.in_ok-verdict.verdict c.in_ok-verdict.ensures c.args.found.unexplained.items c.requires.found.unexplained (c.ssi_law.ensures h wf)
+    c.if-matches.serializable c.in_ok-pass.pass (serial (goal.at.returns-clause-pass c).After-ssi_law) c.in_ok-pass.ensures

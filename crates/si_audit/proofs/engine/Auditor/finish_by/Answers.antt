@@ -21,7 +21,7 @@ of_each a P (Err e) each = tt
 pub returns-in-Ok : goal.returns-in-Ok
 returns-in-Ok g c =
     let a = c.args.self in
-    let answer = c.report_of_log in
+    let answer = c.report_of in
     let h = c.in-Ok.log in record {
       report = of_each a (λ limits o text r. (bytes : List ℕ) × IsReport limits o.form text bytes × HasText r bytes) answer.result (λ limits o text fed.
           let reads = c.in-Ok.ensures.reads limits text fed.received.0 in

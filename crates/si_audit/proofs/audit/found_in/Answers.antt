@@ -5,7 +5,7 @@ use Rattle.std.specs.List.{AllZip}
 use Rattle.sia_parts.specs.Gathering.{IsPartFound}
 use Rattle.sia_parts.specs.Parts.{IsInPart}
 use Rattle.si_audit.proofs.Shared.Results.{each_owed}
-use Rattle.si_audit.proofs.audit.judged.Goals as goal
+use Rattle.si_audit.proofs.audit.found_in.Goals as goal
 
 pub of-requires-2 : goal.of-requires-2
 of-requires-2 g c =
