@@ -168,11 +168,10 @@ impl Judge {
     }
 }
 
-/// Space, tab, CR or LF.
+/// Space, tab, CR or LF. Most bytes are told by one test.
 pub(crate) fn is_separator(byte: u8) -> bool
     ensures { result ≡ is_separator byte }
 {
-    // Most bytes are told by one test.
     byte <= b' ' && matches!(byte, b' ' | b'\t' | b'\r' | b'\n')
 }
 
@@ -213,10 +212,11 @@ pub(crate) fn token_len(text: &[u8]) -> usize
     let mut len = 0;
     while len + BLOCK <= text.len() {
         let plain = plain_at(text, len);
-        len += plain;
         if plain < BLOCK {
+            len += plain;
             break;
         }
+        len += BLOCK;
     }
     while len < text.len() && !is_separator(text[len]) {
         len += 1;

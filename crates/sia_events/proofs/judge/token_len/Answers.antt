@@ -7,7 +7,9 @@ use Rattle.sia_events.proofs.judge.token_len.Goals as goal
 use Rattle.sia_events.proofs.judge.token_len.Goals.{else-loop-len-test, then-loop-len-test+then-plain-lt-BLOCK}
 
 pub loop-len-preserved : goal.loop-len-preserved
-loop-len-preserved c = unbroken_further c.args.text.now c.loop-len.len c.plain_at-plain.result c.loop-len-test.true c.plain_at-plain.ensures c.loop-len.invariant
+loop-len-preserved c =
+    let further = unbroken_further c.args.text.now c.loop-len.len c.plain_at-plain.result c.loop-len-test.true c.plain_at-plain.ensures c.loop-len.invariant in
+    record { within = omega arith; passed = λ k less. further.passed k (omega arith) }
 
 pub loop-len-2-init : goal.loop-len-2-init
 loop-len-2-init c = elim c.loop-len-test.branch [
