@@ -32,6 +32,16 @@ txn_in (rows.Write d k w) = d
 txn_in (rows.Commit d) = d
 txn_in (rows.Abort d) = d
 
+-- the log's transaction whose read the row is, and for other events a number that none has
+abbrev pub reader_in : Row → ℕ
+reader_in (rows.Begin d start) = 4294967295
+reader_in (rows.Read d k w) = d
+reader_in (rows.OwnRead d k w) = d
+reader_in (rows.Range d r w) = d
+reader_in (rows.Write d k w) = 4294967295
+reader_in (rows.Commit d) = 4294967295
+reader_in (rows.Abort d) = 4294967295
+
 -- an index of the log, and the numbers of the written keys of the part
 pub record IsScope (scope : Scope) : Type 0 where
   pub same : scope.ix.now ≡ scope.log.now

@@ -22,7 +22,7 @@ use crate::audit::sights::{Known, Scope, Seen, WrongReads, numbers_within, put_r
 use crate::cutting::Part;
 use crate::edges::{edges_at, first_or_end};
 use crate::finding::{BadWrite, PartFindings, PartFound};
-use crate::reads::{Reads, is_read, txn_of};
+use crate::reads::{Reads, txn_of};
 use sia_events::{History, Key, Log, NoMemory, Row};
 use sia_index::ordering::put_in_order;
 use sia_index::{Index, Reader};
@@ -159,9 +159,8 @@ fn seen_of(alloc: Global, scope: &Scope, places: &[u32]) -> Result<Seen, NoMemor
     };
     let mut last: Option<Known> = None;
     for place in places {
-        let row = match scope.log.row(*place) {
-            Some(row) if is_read(row) => row,
-            _ => continue,
+        let Some(row) = scope.log.row(*place) else {
+            continue
         };
         let (txn, place) = (txn_of(row), *place);
         // Where it read last, nothing is looked up.

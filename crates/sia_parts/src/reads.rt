@@ -1,15 +1,15 @@
 //! Read events dealt to parts of the keys.
-ghost use Rattle.std.specs.Prelude.{◌≡◌, ◌<◌, ◌≤◌, ℕ, List, Some, AllPairs, MatchOption, Contains, IfOk, IsTrue, OnOk, length, ◌-◌};
+ghost use Rattle.std.specs.Prelude.{◌≡◌, ◌<◌, ◌≤◌, ℕ, List, Some, AllPairs, MatchOption, Contains, IfOk, OnOk, length, ◌-◌};
 ghost use Rattle.std.specs.List.{slice_get};
 ghost use Rattle.std.specs.List.Sorted.{IsNonDecreasingBy};
 ghost use Rattle.sia_events.specs.declared.event.Event.{Event};
 ghost use Rattle.sia_events.specs.Events.{Saw};
-ghost use Rattle.sia_events.specs.Numbering.{Names, names_of, event_of, IsWithin};
+ghost use Rattle.sia_events.specs.Numbering.{names_of, event_of, IsWithin};
 ghost use Rattle.sia_events.specs.Reads.{SawAt};
 ghost use Rattle.sia_parts.specs.declared.cutting.Part.{Part as part};
 ghost use Rattle.sia_parts.specs.Dealing.{AreReads, Deals, HasReadsOf};
 ghost use Rattle.sia_parts.specs.Parts.{IsCutting};
-ghost use Rattle.sia_parts.specs.Seeing.{txn_in};
+ghost use Rattle.sia_parts.specs.Seeing.{reader_in, txn_in};
 
 use crate::cutting::Part;
 use sia_events::{Key, Log, NoMemory, Row};
@@ -17,21 +17,26 @@ use sia_index::keyed::{By, ByKey, place_above};
 use sia_index::lists::Lists;
 use std::alloc::Global;
 
-/// For each of some parts the places of the read events that concern it, which ascend. A part alone has the places of all events,
+/// For each of some parts the places of the read events that concern it, which ascend. A part alone has those of all read events,
 /// transaction by transaction: of several parts each has few of a transaction, and one way through the log costs less.
 #[derive(Drop)]
 pub struct Reads {
     pub(crate) dealt: Vec<Vec<u32>>,
 }
 
-/// By the log's transaction.
-struct ByActor;
+/// By the log's transaction that reads. No transaction has the number of other events.
+struct ByReadingTxn;
 
-impl By<Row> for ByActor {
-    ghost by = { λ row. txn_in row };
+impl By<Row> for ByReadingTxn {
+    ghost by = { λ row. reader_in row };
 
     fn number(row: &Row) -> u64 {
-        u64::from(txn_of(*row))
+        match row {
+            Row::Read { txn, .. } | Row::OwnRead { txn, .. } | Row::Range { txn, .. } => {
+                u64::from(*txn)
+            }
+            _ => u64::from(u32::MAX),
+        }
     }
 }
 
@@ -51,7 +56,7 @@ impl Reads {
     {
         let mut dealt = Vec::with_capacity(alloc, parts.len())?;
         if parts.len() == 1 {
-            dealt.push(places_by_txn(alloc, log)?)?;
+            dealt.push(places_of_reads(alloc, log)?)?;
             return Ok(Reads { dealt });
         }
         for _ in 0..parts.len() {
@@ -75,28 +80,18 @@ impl Reads {
     }
 }
 
-/// The places of all events, transaction by transaction in the order of the log's numbers, and then by place.
-fn places_by_txn(alloc: Global, log: &Log) -> Result<Vec<u32>, NoMemory>
+/// The places of all read events, transaction by transaction in the order of the log's numbers, and then by place.
+fn places_of_reads(alloc: Global, log: &Log) -> Result<Vec<u32>, NoMemory>
     ensures { IfOk result (λ places. (p t k v : ℕ) → SawAt log.now p t k v → Contains places.items p) }
 {
     log.law();
-    let lists = Lists::<u32>::places::<Row, ByActor>(alloc, log.txn_count() as usize, log.rows())?;
+    let count = log.txn_count() as usize;
+    let lists = Lists::<u32>::places::<Row, ByReadingTxn>(alloc, count, log.rows())?;
     let mut places = lists.into_rows();
     for place in places.iter_mut() {
         *place += 1;
     }
     Ok(places)
-}
-
-/// Whether the event is a read.
-#[inline(always)]
-pub(crate) fn is_read(row: Row) -> bool
-    ensures { (names : Names) (k v : ℕ) → Saw (event_of names row) k v → IsTrue result }
-{
-    matches!(
-        row,
-        Row::Read { .. } | Row::OwnRead { .. } | Row::Range { .. }
-    )
 }
 
 /// The first and the last key that the event may have seen, if it is a read.

@@ -1,13 +1,13 @@
--- The places of all rows, dealt by a number and then counted from 1.
+-- The places of rows, dealt by a number and then counted from 1.
 use Rattle.std.proofs.Common.{◌≡◌, inl, inr, ℕ, ◌+◌, ◌<◌, ◌≤◌, List, length, map, drop, take, get_or, set, ◌-◌, ◌++◌, ap, subst, sym, ◌∙◌, arith}
 use Rattle.std.specs.Prelude.{All, Contains, slice_index}
 use Rattle.std.specs.List.{range_with_len}
 use Rattle.std.proofs.lemmas.Bool.{cases_eq}
-use Rattle.std.proofs.lemmas.List.{append-nil, drop_all, get_or-set_other, length-map, length-set, take_all}
+use Rattle.std.proofs.lemmas.List.{append-nil, drop_all, get_or-map, get_or-set_other, length-set, take_all}
 use Rattle.std.proofs.lemmas.Grind.{get_or_default_zero, get_or-set_at}
 use Rattle.std.proofs.Math.Nat.{le_refl}
 use Rattle.std.proofs.lemmas.List.FromFn.{get_or-range_with_len, length-range_with_len}
-use Rattle.std.proofs.lemmas.List.Elements.{All-map, All-weaker}
+use Rattle.std.proofs.lemmas.List.Elements.{All-weaker}
 use Rattle.sia_index.specs.Lists.{joined, places_by}
 use Rattle.sia_index.proofs.VersionRows.StableDeal.{dealt_have, dealt_within}
 
@@ -18,13 +18,12 @@ module _ {A : Type 0} (by : A → ℕ) (count : ℕ) (rows : List A) where
   abbrev all_places : List ℕ
   all_places = range_with_len 0 (length rows)
 
-  -- no place is lost, and none is beyond the rows
-  pub places_have : All (λ row. by row < count) rows → (i : ℕ) → i < length rows → Contains (joined (places_by by count rows)) i
-  places_have all i below =
+  -- no place of a number below the count is lost, and none is beyond the rows
+  pub places_have : (i : ℕ) (row : A) → i < length rows → by (get_or rows i row) < count → Contains (joined (places_by by count rows)) i
+  places_have i row below less =
       let long = length-range_with_len 0 (length rows) in
       let at = get_or-range_with_len 0 (length rows) i i below in
-      dealt_have by_place all_places count i (i, omega arith, omega arith)
-      (All-map (λ number. number < count) by rows all i 0 (let same = length-map rows by in omega arith))
+      dealt_have by_place all_places count i (i, omega arith, omega arith) (subst (λ n. n < count) (sym (get_or-map by rows i row 0 below)) less)
 
   pub places_within : All (λ i. i < length rows) (joined (places_by by count rows))
   places_within = All-weaker (Contains all_places) (λ i. i < length rows) (λ i c.

@@ -1,10 +1,7 @@
 -- Each place adds what its event saw, and what all of the part saw is put in order.
 use Rattle.std.proofs.Common.{◌≡◌, ℕ, List, None, Some, get_or, refl, rules, subst, sym, ◌∙◌}
 use Rattle.std.specs.Prelude.{◌↔◌, ⊤, IsSome, MatchOption}
-use Rattle.std.proofs.lemmas.Option.{same_Some}
 use Rattle.sia_events.specs.declared.event.Event.{Event}
-use Rattle.sia_events.specs.Events.{Saw}
-use Rattle.sia_events.specs.Numbering.{names_of, event_of}
 use Rattle.sia_index.specs.declared.info.Reader.{Reader}
 use Rattle.sia_index.specs.Info.{IsReader}
 use Rattle.sia_index.specs.Numbers.{IsCommittedAt}
@@ -21,7 +18,7 @@ use Rattle.sia_parts.specs.Seeing.{Gains, IsSightWithin}
 use Rattle.sia_parts.proofs.Shared.Listing.{put_listed, bad_read_before, unexplained_before}
 use Rattle.sia_parts.proofs.Auditing.Gaining.{gains_all, gains_more, gains_nothing}
 use Rattle.sia_parts.proofs.Auditing.SeenAll.{bad_reads_are, sights_are, unexplained_are}
-use Rattle.sia_parts.proofs.audit.seen_of.Goals.{Joined-last, in-Some-last, in_default-last, in_default-via-in-Some+else-is_read, in_default-via-in_default}
+use Rattle.sia_parts.proofs.audit.seen_of.Goals.{Joined-last, in-Some-last, in_default-last}
 use Rattle.sia_parts.proofs.audit.seen_of.Goals as goal
 
 own_reader : (h : List Event) (t p : ℕ) (r : Reader) → IsReader h t p r → IsReader h r.txn r.place r
@@ -73,15 +70,7 @@ pub loop-place-preserved-in_default : goal.loop-place-preserved-in_default
 loop-place-preserved-in_default c = record {
   last = c.loop-place.invariant.last;
   gains = gains_nothing c.args.scope.now.ix.now c.args.scope.now.log.now c.requires.scope.same c.args.scope.now.first c.args.scope.now.end c.args.places.now c.loop-place.place-index c.loop-place-test.true
-      (λ e k v at saw. elim c.in_default.branch [
-        | in_default-via-in-Some+else-is_read w ↦
-            let names = names_of c.args.scope.now.log.now in
-            let event : e ≡ event_of names w.in-Some.row = same_Some _ _ (sym at ∙ sym w.in-Some.ensures.event) in
-            let read = w.is_read.ensures names k v (subst (λ x. Saw x k v) event saw) in
-            let unread = w.if-is_read.false in
-            cc
-        | in_default-via-in_default w ↦ let never : None ≡ Some e = w.in_default.ensures.event ∙ at in cc
-      ]) _ c.loop-place.seen c.loop-place.invariant.gains;
+      (λ e k v at saw. let never : None ≡ Some e = c.in_default.ensures.event ∙ at in cc) _ c.loop-place.seen c.loop-place.invariant.gains;
 }
 
 pub returns-clause-bad_reads : goal.returns-clause-bad_reads

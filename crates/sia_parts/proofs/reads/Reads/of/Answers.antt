@@ -29,12 +29,12 @@ returns c = record {
 -- one part has all
 pub returns-then-parts-eq1 : goal.returns-then-parts-eq1
 returns-then-parts-eq1 c =
-    let all = c.in_ok-places_by_txn.field-0 in
+    let all = c.in_ok-places_of_reads.field-0 in
     let is : c.push.new.self.items ≡ all ∷ [] = c.in_ok-push.ensures.items ∙ ap (λ (lists : List (Vec ℕ Global)). lists ++ all ∷ []) c.in_ok-dealt.ensures.items in
     record {
       long = ap length is ∙ sym c.if-parts-eq1.true;
       each = λ i places part below p t k v saw inside.
           (let first : i ≡ 0 = let one = c.if-parts-eq1.true in omega arith in
           let same : slice_index_or c.push.new.self.items i places ≡ all = ap (λ n. slice_index_or c.push.new.self.items n places) first ∙ ap (λ (lists : List (Vec ℕ Global)). slice_index_or lists 0 places) is in
-          subst (λ (v : Vec ℕ Global). Contains v.items p) (sym same) (c.in_ok-places_by_txn.ensures p t k v saw));
+          subst (λ (v : Vec ℕ Global). Contains v.items p) (sym same) (c.in_ok-places_of_reads.ensures p t k v saw));
     }

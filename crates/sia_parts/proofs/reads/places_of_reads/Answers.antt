@@ -2,16 +2,15 @@
 use Rattle.std.proofs.Common.{◌≡◌, ℕ, ◌-◌, ◌<◌, length, ap, subst, sym, ◌∙◌, arith, le_refl}
 use Rattle.std.specs.Prelude.{All, Contains}
 use Rattle.std.proofs.lemmas.List.{length-map}
-use Rattle.std.proofs.lemmas.List.Elements.{All-weaker}
-use Rattle.sia_events.specs.declared.log.Row.{Row}
-use Rattle.sia_events.specs.Numbering.{names_of, event_of, IsWithin}
+use Rattle.sia_events.specs.declared.log.Row.TheVariants.{Commit}
+use Rattle.sia_events.specs.Numbering.{names_of, event_of}
 use Rattle.sia_events.proofs.Shared.TransactionDecisions.{place_within}
 use Rattle.sia_events.proofs.Writing.WellFormed.{few_events}
 use Rattle.sia_index.specs.Lists.{joined, places_by}
-use Rattle.sia_parts.specs.Seeing.{txn_in}
+use Rattle.sia_parts.specs.Seeing.{reader_in}
 use Rattle.sia_parts.proofs.ReadLists.AllPlaces.{count_all, count_more, places_have, places_within}
-use Rattle.sia_parts.proofs.Shared.RowTxns.{txn_within}
-use Rattle.sia_parts.proofs.reads.places_by_txn.Goals as goal
+use Rattle.sia_parts.proofs.Shared.RowTxns.{reads_within}
+use Rattle.sia_parts.proofs.reads.places_of_reads.Goals as goal
 
 pub overflow_add-place : goal.overflow_add-place
 overflow_add-place c =
@@ -20,8 +19,8 @@ overflow_add-place c =
     let old = c.deref_mut-place-items.result.now in
     let n = c.loop-place.place-index in
     let below : n < length old = c.loop-place-test.true in
-    let all = places_within txn_in c.txn_count.result rows in
-    let dealt : old ≡ joined (places_by txn_in c.txn_count.result rows) = c.deref_mut-place-items.ensures.value ∙ c.into_rows-places.ensures ∙ ap joined c.in_ok-lists.ensures in
+    let all = places_within reader_in c.txn_count-count.result rows in
+    let dealt : old ≡ joined (places_by reader_in c.txn_count-count.result rows) = c.deref_mut-place-items.ensures.value ∙ c.into_rows-places.ensures ∙ ap joined c.in_ok-lists.ensures in
     let here = subst (λ l. All (λ i. i < length rows) l) (sym dealt) all n 0 below in
     let same = c.loop-place.invariant.behind n (le_refl n) in
     let long = sym (length-map rows (event_of (names_of h))) ∙ ap length c.rows.ensures.events in
@@ -36,11 +35,10 @@ returns c p t k v saw =
     let h = c.args.log.now in
     let rows = c.rows.result.now in
     let old = c.deref_mut-place-items.result.now in
-    let count = c.txn_count.result in
+    let count = c.txn_count-count.result in
     let within = place_within h p saw.0 saw.1 in
-    let dealt : old ≡ joined (places_by txn_in count rows) = c.deref_mut-place-items.ensures.value ∙ c.into_rows-places.ensures ∙ ap joined c.in_ok-lists.ensures in
-    let long = sym (length-map rows (event_of (names_of h))) ∙ ap length c.rows.ensures.events in
-    let few : All (λ (row : Row). txn_in row < count) rows = All-weaker (IsWithin (names_of h)) (λ row. txn_in row < count) (λ row is. subst (λ n. txn_in row < n) (sym c.txn_count.ensures) (txn_within (names_of h) row is)) rows c.rows.ensures.within in
-    let there = places_have txn_in count rows few (p - 1) (let some = within.0 in let most = within.1 in omega arith) in
+    let dealt : old ≡ joined (places_by reader_in count rows) = c.deref_mut-place-items.ensures.value ∙ c.into_rows-places.ensures ∙ ap joined c.in_ok-lists.ensures in
+    let (inside, reads) = reads_within (names_of h) rows h c.rows.ensures.events c.rows.ensures.within p t k v saw (Commit 0) in
+    let there = places_have reader_in count rows (p - 1) (Commit 0) inside (omega (arith, reads, c.txn_count-count.ensures)) in
     count_all c.loop-place.place-index c.into_rows-places.result.len old c.loop-place.place-items c.into_rows-places.result.items c.loop-place-test.false c.loop-place.invariant
     (let ok = c.into_rows-places.result.ok in let same = ap (length {A = ℕ}) c.deref_mut-place-items.ensures.value in omega arith) (ap (length {A = ℕ}) (sym c.deref_mut-place-items.ensures.value)) p within.0 (subst (λ l. Contains l (p - 1)) (sym dealt) there)
