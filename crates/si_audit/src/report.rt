@@ -1,4 +1,4 @@
-//! The lines of a report, and the words of a line. Lines of edges, of which there can be millions, are put together in blocks.
+//! The lines of a report, and the words of a line. Lines of edges and pivots are made elsewhere, as they are given.
 ghost use Rattle.std.specs.Prelude.{◌≡◌, [], ◌∷◌, ◌++◌, flat_map, map, OnOk, if◌then◌else◌, ◌&&◌, ℕ, List, All, IfSome};
 ghost use Rattle.sia_events.specs.Text.{numeral};
 ghost use Rattle.si_audit.specs.Spaced.{spaced, words_of};
@@ -151,10 +151,12 @@ pub(crate) fn push_verdict(out: &mut Vec<u8>, verdict: &Verdict) -> Result<(), A
             let steps = steps.as_slice();
             out.extend_from_slice(b"cycle")?;
             for s in steps {
-                push_words(out, &[number(s.txn), Words::Edge(s.kind, s.key)])?;
+                push_number(out, b" ", u64::from(s.txn), b" >")?;
+                out.extend_from_slice(kind_word(s.kind))?;
+                push_number(out, b":", s.key, b">")?;
             }
             if let Some(first) = steps.first() {
-                push_words(out, &[number(first.txn)])?;
+                push_number(out, b" ", u64::from(first.txn), b"")?;
             }
             out.extend_from_slice(b"\n")
         }
