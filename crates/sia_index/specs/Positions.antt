@@ -1,10 +1,11 @@
 -- Positions: all versions of the written keys stand in one list, by key and then by commit, version 0 of each key first, as of 0.
 -- A position is a place in it, counted from 0.
-use Rattle.std.specs.Prelude.{◌≡◌, ◌⊎◌, ℕ, zero, suc, ◌+◌, ◌≤◌, List, [], ◌∷◌, Some, length}
+use Rattle.std.specs.Prelude.{◌≡◌, ◌⊎◌, ℕ, zero, suc, ◌+◌, ◌<◌, ◌≤◌, List, [], ◌∷◌, Some, length, slice_index_or}
 use Rattle.std.specs.List.{slice_get}
 use Rattle.sia_events.specs.declared.event.Event.{Event}
 use Rattle.sia_events.specs.Lists.{ListsBy}
 use Rattle.sia_events.specs.NarrowDependencies.{CommitsVersion, IsNextVersion}
+use Rattle.sia_index.specs.Numbers.{IsCommittedAt}
 use Rattle.sia_index.specs.Rows.{IsWritten}
 use Rattle.sia_index.specs.declared.info.KeyVersion.{KeyVersion}
 
@@ -44,3 +45,8 @@ HasVersionUpTo h k c = (u : ℕ) × (d : ℕ) × CommitsVersion h k u d × (d �
 abbrev pub IsCommitBehind : List Event → ℕ → KeyVersion → ℕ → Type 0
 IsCommitBehind h q v zero = NoneBehind h v.key v.commit
 IsCommitBehind h q v (suc before) = (w : KeyVersion) × IsAtPosition h (q + 1) w × (w.key ≡ v.key) × (w.commit ≡ suc before) × IsNextVersion h v.key v.commit w.txn
+
+-- the other versions of the key of v, which is at position q, that aren't before it stand right behind it, and the numbers are of who made them
+pub record AreMakersBehind (h : List Event) (q : ℕ) (v : KeyVersion) (makers : List ℕ) : Type 0 where
+  pub each : (i d : ℕ) → i < length makers → (w : KeyVersion) × IsAtPosition h (q + 1 + i) w × (w.key ≡ v.key) × (0 < w.commit) × IsCommittedAt h (slice_index_or makers i d) w.txn
+  pub all : (p : ℕ) (w : KeyVersion) → IsAtPosition h p w → w.key ≡ v.key → p ≤ q + length makers

@@ -50,19 +50,19 @@ abbrev pub AreKeys : List Event → Keys → Type 0
 AreKeys h k = AreNumbers (IsWritten h) (keys_of h) k.keys.items k.numbers.items
 
 -- the positions of the versions that each of so many transactions made, by its number, each ascending, and of those that nobody made
-abbrev pub AreMadeBy : List VersionRow → ℕ → List (List ℕ) → Type 0
-AreMadeBy rows txns lists = (length lists ≡ txns + 1)
-    × ((t : ℕ) → t < txns → ListsAscending (λ q. (row : VersionRow) × (slice_get rows q ≡ Some row) × (0 < row.write) × (row.maker ≡ t)) (slice_index_or lists t []))
+abbrev pub AreMadeBy : List ℕ → ℕ → List (List ℕ) → Type 0
+AreMadeBy makers txns lists = (length lists ≡ txns + 1) × ((t : ℕ) → t < txns → ListsAscending (λ q. slice_get makers q ≡ Some t) (slice_index_or lists t []))
 
 -- the tables by position, by key, by write and by transaction
 pub record AreVersionTables (h : List Event) (committed keys : List ℕ) (v : Versions) : Type 0 where
   pub rows : List VersionRow
   pub rows_are : AreRowsByPosition h committed keys rows
   pub made_are : IsColumn (made_row h) rows (length rows) v.made.items
-  pub kept : joined v.rows ≡ rows
+  pub keys_are : IsColumn (λ row. row.key) rows (length rows) v.keys.items
+  pub makers_are : IsColumn (λ row. row.maker) rows (length rows) v.makers.items
   pub firsts_are : AreFirsts rows (length rows) (length keys) v.firsts.items
   pub writes_are : AreWritesAt h keys rows (length rows) v.writes.items
-  pub made_by_are : AreMadeBy rows (length committed) v.made_by
+  pub made_by_are : AreMadeBy v.makers.items (length committed) v.made_by
   pub first_commits_are : IsColumn (commit_behind v.made.items) v.firsts.items (length v.firsts.items) v.first_commits.items
   pub minima_are : AreMinima (λ place. place) v.first_commits.items v.minima.items
 

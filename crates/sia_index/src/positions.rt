@@ -1,5 +1,5 @@
 //! The positions of versions, and what stands next to one.
-ghost use Rattle.std.specs.Prelude.{◌≡◌, ◌<◌, ◌≤◌, ◌-◌, ℕ, MatchOption, ◌↔◌, IsTrue, length};
+ghost use Rattle.std.specs.Prelude.{◌≡◌, ◌<◌, ◌≤◌, ◌+◌, ◌-◌, ℕ, MatchOption, ◌↔◌, IsTrue, length};
 ghost use Rattle.sia_events.specs.Numbering.{names_of, keys_of, writes_of, key_at, write_at};
 ghost use Rattle.sia_events.specs.Lists.{ListsAscending};
 ghost use Rattle.sia_events.specs.NarrowDependencies.{IsNextVersion};
@@ -7,7 +7,7 @@ ghost use Rattle.sia_events.specs.Transactions.{IsCommitted, Wrote};
 ghost use Rattle.sia_index.specs.Info.{IsKeyAt, HasKeyAt};
 ghost use Rattle.sia_index.specs.Numbers.{IsCommittedAt};
 ghost use Rattle.sia_index.specs.declared.info.KeyVersion.{KeyVersion};
-ghost use Rattle.sia_index.specs.Positions.{ArePositions, HasPosition, IsCommitBehind, HasVersionUpTo, IsAtPosition, IsNewestAsOf, NoneBehind};
+ghost use Rattle.sia_index.specs.Positions.{AreMakersBehind, ArePositions, HasPosition, IsCommitBehind, HasVersionUpTo, IsAtPosition, IsNewestAsOf, NoneBehind};
 
 use crate::index::Index;
 use crate::info::{Made, WriteAt};
@@ -63,7 +63,7 @@ impl Index {
         requires { HasPosition self.now position }
         ensures { (v : KeyVersion) → IsAtPosition self.now position v → IsKeyAt self.now result v.key }
     {
-        self.versions.rows.rows()[position as usize].key
+        self.versions.keys[position as usize]
     }
 
     /// When the version at the position was committed: 0 for version 0.
@@ -80,11 +80,19 @@ impl Index {
         ensures { (v : KeyVersion) → IsAtPosition self.now position v
             → MatchOption result (v.commit ≡ 0) (λ i. (0 < v.commit) × IsCommittedAt self.now i v.txn) }
     {
-        let row = self.versions.rows.rows()[position as usize];
-        if row.commit == 0 {
-            return None;
-        }
-        Some(row.maker)
+        let maker = self.versions.makers[position as usize];
+        ((maker as usize) < self.txns.committed.len()).then_some(maker)
+    }
+
+    /// The numbers, among the committed transactions, of who made the versions of the same key behind the position, in order.
+    pub fn makers_behind(&self, position: u32) -> &[u32]
+        requires { HasPosition self.now position }
+        ensures makers { (v : KeyVersion) → IsAtPosition self.now position v
+            → AreMakersBehind self.now position v result.now }
+        ensures few { position + length result.now < 4294967295 }
+    {
+        let (_, end) = self.group(self.key_at(position) as usize);
+        &self.versions.makers[position as usize + 1..end]
     }
 
     /// When the version behind the position was committed: 0 where that is another key's version 0, or there is none.

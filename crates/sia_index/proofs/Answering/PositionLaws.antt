@@ -21,9 +21,8 @@ use Rattle.sia_index.specs.declared.versions.VersionRow.{VersionRow}
 use Rattle.sia_index.specs.declared.versions.Written.{Written}
 use Rattle.sia_index.specs.declared.versions.Versions.{Versions}
 use Rattle.sia_index.specs.Info.{AreVersions, AreWrittenKeys, IsKeyAt, IsMade}
-use Rattle.sia_index.specs.Lists.{joined}
 use Rattle.sia_index.specs.Numbers.{IsCommittedAt}
-use Rattle.sia_index.specs.Positions.{ArePositions, HasPosition, HasVersionUpTo, IsAtPosition, IsCommitBehind, IsNewestAsOf, IsVersion, NoneBehind}
+use Rattle.sia_index.specs.Positions.{AreMakersBehind, ArePositions, HasPosition, HasVersionUpTo, IsAtPosition, IsCommitBehind, IsNewestAsOf, IsVersion, NoneBehind}
 use Rattle.sia_index.specs.Rows.{IsKeyStretch, IsWritten}
 use Rattle.sia_index.specs.Tables.{AreTables, AreVersionTables}
 use Rattle.sia_index.specs.declared.names.Keys.{Keys}
@@ -226,6 +225,10 @@ module _ (h : List Event) (txns : Txns) (ks : Keys) (v : Versions) (ws : Writes)
     | inr none ↦ absurd (let e = is_zero h wf committed keys keys_are (row q) (is_row q below) (omega arith) in omega arith)
   ]
 
+  -- as was what has the number of a maker
+  made_by_number : (q : ℕ) → q < length t.rows → (row q).maker < length committed → IsMadeRow h committed keys (row q)
+  made_by_number q below by = elim (is_row q below).1 [ inl none ↦ absurd (let e = none.2 in omega arith) | inr made ↦ made ]
+
   -- version 0 of each key
   pub first_is : (i : ℕ) → i < length keys → (slice_index v.firsts.items i < length t.rows) × ((row (slice_index v.firsts.items i)).key ≡ i) × ((row (slice_index v.firsts.items i)).commit ≡ 0)
   first_is i inside =
@@ -278,16 +281,10 @@ module _ (h : List Event) (txns : Txns) (ks : Keys) (v : Versions) (ws : Writes)
           (at j, there j below, ap (λ (p : ℕ × ℕ). p.0) both, version_of_write h (row j).write (slice_index keys (row j).key) made.1 made.0 made.2 ∙ ap (λ (p : ℕ × ℕ). p.1) both, commit_above h made.1 (row j).commit made.3)
 
   -- a position is a place in each table
-  pub place_is : (q : ℕ) → HasPosition h q → (q < length v.made.items) × (q < length (joined v.rows))
+  pub place_is : (q : ℕ) → HasPosition h q → (q < length v.made.items) × (q < length v.keys.items) × (q < length v.makers.items)
   place_is q has =
       let below = (at_position q has.0 has.1).0 in
-      let a = t.made_are.0 in
-      let b = ap length t.kept in
-      (omega arith, omega arith)
-
-  -- and its row is the one there
-  row_is : (q : ℕ) (rows : List VersionRow) → rows ≡ joined v.rows → slice_index_or rows q no_row ≡ row q
-  row_is q rows same = ap (λ xs. slice_index_or xs q no_row) (same ∙ t.kept)
+      (omega (arith, t.made_are.0), omega (arith, t.keys_are.0), omega (arith, t.makers_are.0))
 
   -- what is read there
   pub made_is : (q : ℕ) (w : KeyVersion) → IsAtPosition h q w → (made : Made) → made ≡ slice_index_or v.made.items q made → made.commit ≡ w.commit
@@ -295,23 +292,42 @@ module _ (h : List Event) (txns : Txns) (ks : Keys) (v : Versions) (ws : Writes)
       let p = at_position q w is in
       ap (λ (m : Made). m.commit) (read ∙ t.made_are.1 q made no_row (let below = p.0 in let long = t.made_are.0 in omega arith)) ∙ ap (λ (x : KeyVersion). x.commit) p.1
 
-  pub key_is : (q : ℕ) (w : KeyVersion) → IsAtPosition h q w → (rows : List VersionRow) → rows ≡ joined v.rows → IsKeyAt h (slice_index_or rows q no_row).key w.key
-  key_is q w is rows same =
+  pub key_is : (q : ℕ) (w : KeyVersion) → IsAtPosition h q w → (key : ℕ) → key ≡ slice_index_or v.keys.items q key → IsKeyAt h key w.key
+  key_is q w is key read =
       let p = at_position q w is in
-      let own = ap (λ (x : VersionRow). x.key) (row_is q rows same) in
+      let own : key ≡ (row q).key = read ∙ t.keys_are.1 q key no_row (let below = p.0 in let long = t.keys_are.0 in omega arith) in
       subst (λ m. IsKeyAt h m w.key) (sym own) (keys, keys_are, (is_row q p.0).0, ap (λ (x : KeyVersion). x.key) p.1)
 
-  pub row_commit : (q : ℕ) (w : KeyVersion) → IsAtPosition h q w → (rows : List VersionRow) → rows ≡ joined v.rows → (slice_index_or rows q no_row).commit ≡ w.commit
-  row_commit q w is rows same = ap (λ (x : VersionRow). x.commit) (row_is q rows same) ∙ ap (λ (x : KeyVersion). x.commit) (at_position q w is).1
+  -- who made a version that isn't 0
+  maker_of : (q : ℕ) → q < length t.rows → 0 < (at q).commit → IsCommittedAt h (row q).maker (at q).txn
+  maker_of q below some =
+      let made = row_made q below some in
+      (committed, committed_are, made.4, made.5 ∙ sym (version_of_write h (row q).write (slice_index keys (row q).key) made.1 made.0 made.2))
 
-  pub maker_is : (q : ℕ) (w : KeyVersion) → IsAtPosition h q w → 0 < w.commit → (rows : List VersionRow) → rows ≡ joined v.rows → IsCommittedAt h (slice_index_or rows q no_row).maker w.txn
-  maker_is q w is some rows same =
-      let p = at_position q w is in
-      let own = ap (λ (x : VersionRow). x.maker) (row_is q rows same) in
-      let commit = ap (λ (x : KeyVersion). x.commit) p.1 in
-      let made = row_made q p.0 (omega arith) in
-      let txn = version_of_write h (row q).write (slice_index keys (row q).key) made.1 made.0 made.2 in
-      subst (λ m. IsCommittedAt h m w.txn) (sym own) (committed, committed_are, made.4, made.5 ∙ sym txn ∙ ap (λ (x : KeyVersion). x.txn) p.1)
+  -- it has a number, which version 0 has not
+  pub maker_is : (q : ℕ) (w : KeyVersion) → IsAtPosition h q w → (maker : ℕ) → maker ≡ slice_index_or v.makers.items q maker → (found : Option ℕ) → found ≡ place_below (length committed) maker
+      → MatchOption found (w.commit ≡ 0) (λ i. (0 < w.commit) × IsCommittedAt h i w.txn)
+  maker_is q w is maker read found told = subst (λ o. MatchOption o (w.commit ≡ 0) (λ i. (0 < w.commit) × IsCommittedAt h i w.txn)) (sym told) (by_test (ltb maker (length committed)) refl)
+    where
+      p : (q < length t.rows) × (at q ≡ w)
+      p = at_position q w is
+
+      own : maker ≡ (row q).maker
+      own = read ∙ t.makers_are.1 q maker no_row (let below = p.0 in let long = t.makers_are.0 in omega arith)
+
+      commit : (row q).commit ≡ w.commit
+      commit = ap (λ (x : KeyVersion). x.commit) p.1
+
+      by_test : (b : Bool) → ltb maker (length committed) ≡ b → MatchOption (then_some b maker) (w.commit ≡ 0) (λ i. (0 < w.commit) × IsCommittedAt h i w.txn)
+      by_test true less =
+          let below = ltb-true maker (length committed) less in
+          let made = made_by_number q p.0 (omega (arith, own)) in
+          let some = commit_above h made.1 (row q).commit made.3 in
+          (omega (arith, commit), subst (λ m. IsCommittedAt h m w.txn) (sym own) (subst (λ (x : KeyVersion). IsCommittedAt h (row q).maker x.txn) p.1 (maker_of q p.0 some)))
+      by_test false more = elim (cases_eq w.commit 0) [
+        | inl none ↦ none
+        | inr other ↦ absurd (let past = ltb-false maker (length committed) more in let made = row_made q p.0 (omega (arith, commit)) in let below = made.4 in omega (arith, own))
+      ]
 
   pub commit_behind_is : (q : ℕ) (w : KeyVersion) → IsAtPosition h q w → (commit : ℕ) → (q + 1 < length v.made.items → commit ≡ (slice_index_or v.made.items (q + 1) no_made).commit) → (length v.made.items ≤ q + 1 → commit ≡ 0) → IsCommitBehind h q w commit
   commit_behind_is q w is commit next last =
@@ -541,6 +557,36 @@ module _ (h : List Event) (txns : Txns) (ks : Keys) (v : Versions) (ws : Writes)
       );
     }
 
+    -- and behind each position of the key the numbers of who made the later ones
+    pub behind_within : (q : ℕ) (w : KeyVersion) → IsAtPosition h q w → w.key ≡ k → (from ≤ q) × (q < to) × (to ≤ length v.makers.items) × (to < 4294967296)
+    behind_within q w is key =
+        let p = at_position q w is in
+        let here = within_stretch q p.0 (ap (λ (x : KeyVersion). x.key) p.1 ∙ key) in
+        let bound = within_made.1 in
+        let long = t.made_are.0 in
+        (here.0, here.1, omega (arith, t.makers_are.0), omega (arith, t.rows_are.few))
+
+    pub behind_long : (q : ℕ) → to ≤ length v.makers.items → length (slice_range v.makers.items (q + 1) to) ≡ to - (q + 1)
+    behind_long q bound = length-between v.makers.items (q + 1) to bound
+
+    pub makers_behind : (q : ℕ) (w : KeyVersion) → IsAtPosition h q w → w.key ≡ k → AreMakersBehind h q w (slice_range v.makers.items (q + 1) to)
+    makers_behind q w is key =
+        let (after, before_to, bound, fits) = behind_within q w is key in
+        let long = behind_long q bound in
+        record {
+          each = λ i d below.
+              let low : from < q + 1 + i = omega arith in
+              let high : q + 1 + i < to = omega arith in
+              let there_is = inside (q + 1 + i) (omega arith) high in
+              let some = commit_above h (at (q + 1 + i)).txn (at (q + 1 + i)).commit (made_there (q + 1 + i) low high).1 in
+              let own : slice_index_or (slice_range v.makers.items (q + 1) to) i d ≡ (row (q + 1 + i)).maker = get_or-between v.makers.items (q + 1) to i d high ∙ t.makers_are.1 (q + 1 + i) d no_row (omega (arith, there_is.0, t.makers_are.0)) in
+              (at (q + 1 + i), there (q + 1 + i) there_is.0, there_is.1 ∙ sym key, some, subst (λ m. IsCommittedAt h m (at (q + 1 + i)).txn) (sym own) (maker_of (q + 1 + i) there_is.0 some));
+          all = λ o x at_o same.
+              let r = at_position o x at_o in
+              let high = (within_stretch o r.0 (ap (λ (y : KeyVersion). y.key) r.1 ∙ same ∙ key)).1 in
+              omega arith;
+        }
+
     -- what a search of them finds
     newest_found : (place n : ℕ) → n ≤ length chain → PointWithin (λ (m : Made). m.commit) chain place n → (from + n < length t.rows) × IsNewestAsOf h place (at (from + n)) × ((at (from + n)).key ≡ k)
     newest_found place n most point =
@@ -621,18 +667,22 @@ module _ (h : List Event) (txns : Txns) (ks : Keys) (v : Versions) (ws : Writes)
           ascending = list.ascending;
           each = λ q. (
             (λ c.
-                let (r, here, written_here, maker) = (list.each q).0 c in
-                let below = slice_get_within t.rows q r here in
-                let own : row q ≡ r = get_or_from_slice_get t.rows q r no_row here in
-                let made = is_made h wf committed keys keys_are (row q) (is_row q below) (let e = ap (λ (x : VersionRow). x.write) own in omega arith) in
-                let txn = version_of_write h (row q).write (slice_index keys (row q).key) made.1 made.0 made.2 in
-                (at q, there q below, commit_above h made.1 (row q).commit made.3, txn ∙ sym made.5 ∙ ap (slice_index committed) (ap (λ (x : VersionRow). x.maker) own ∙ maker) ∙ number.1)),
+                let (below, own) = by_maker q i ((list.each q).0 c) in
+                let made = made_by_number q below (let b = number.0 in omega arith) in
+                let some = commit_above h made.1 (row q).commit made.3 in
+                (at q, there q below, some, version_of_write h (row q).write (slice_index keys (row q).key) made.1 made.0 made.2 ∙ sym made.5 ∙ ap (slice_index committed) own ∙ number.1)),
             (λ (x, here, some, txn).
                 let p = at_position q x here in
                 let made = row_made q p.0 (let e = ap (λ (y : KeyVersion). y.commit) p.1 in omega arith) in
                 let name = version_of_write h (row q).write (slice_index keys (row q).key) made.1 made.0 made.2 in
                 let same = one_place committed committed_up (row q).maker i made.4 number.0 (made.5 ∙ sym name ∙ ap (λ (y : KeyVersion). y.txn) p.1 ∙ txn ∙ sym number.1) in
-                (list.each q).1 (row q, slice_get-get_or t.rows q no_row p.0, made.0, same)),
+                let inside : q < length v.makers.items = omega (arith, p.0, t.makers_are.0) in
+                (list.each q).1 (slice_get-get_or v.makers.items q 0 inside ∙ ap Some (t.makers_are.1 q 0 no_row inside ∙ same))),
           );
         },
       )
+    where
+      by_maker : (q i : ℕ) → slice_get v.makers.items q ≡ Some i → (q < length t.rows) × ((row q).maker ≡ i)
+      by_maker q i here =
+          let inside = slice_get_within v.makers.items q i here in
+          (omega (arith, t.makers_are.0), sym (t.makers_are.1 q 0 no_row inside) ∙ get_or_from_slice_get v.makers.items q i 0 here)

@@ -34,13 +34,6 @@ module _ (h : List Event) (wf : IsWellFormed h) (committed keys : List ℕ) (key
       of_row row (inside, inl none) = let e = none.2 in omega arith
       of_row row (inside, inr made) = let b = made.4 in omega arith
 
-  pub made_by_nobody : All (λ row. row.write ≡ 0 → row.maker ≡ length committed) rows
-  made_by_nobody i d below none = of_row (slice_index_or rows i d) (are.right i d below) none
-    where
-      of_row : (row : VersionRow) → IsVersionRow h committed keys row → row.write ≡ 0 → row.maker ≡ length committed
-      of_row row (inside, inl zero_row) none = zero_row.2
-      of_row row (inside, inr made) none = absurd (let some = made.0 in omega arith)
-
   -- one stands before another by key, and then by commit
   pub order : (i j : ℕ) (d : VersionRow) → i < j → j < length rows → (slice_index keys (slice_index_or rows i d).key < slice_index keys (slice_index_or rows j d).key)
       ⊎ ((slice_index keys (slice_index_or rows i d).key ≡ slice_index keys (slice_index_or rows j d).key) × ((slice_index_or rows i d).commit < (slice_index_or rows j d).commit))
