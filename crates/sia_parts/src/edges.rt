@@ -191,16 +191,15 @@ impl<'a> Edges<'a> {
         ensures puts { Puts (IsMakerRow self.now.index.now source kind position) (result - position)
             rows.old rows.new }
     {
-        self.index.law();
         let key = self.index.key_at(position);
-        let end = first_or_end(self.index, key + 1);
-        for behind in position + 1..end {
-            let target = self.index.maker_at(behind).unwrap_or(source);
+        let makers = self.index.makers_behind(position);
+        for maker in makers {
+            let target = *maker;
             if target != source {
                 rows.push_reserved(EdgeTo { target, kind, key });
             }
         }
-        end
+        position + 1 + makers.len() as u32
     }
 
     /// Adds the edges to who saw a version of the key at the position or behind it.
@@ -267,9 +266,8 @@ fn put_readings(
     ensures { OnOk result (ReadsMore ix.now reader (Contains saw.now) readings.old.items
         readings.new.items) }
 {
-    ix.law();
     for i in (0..saw.len()).rev() {
-        if i + 1 == saw.len() || saw[i + 1] >= first_or_end(ix, ix.key_at(saw[i]) + 1) {
+        if i + 1 == saw.len() || ix.key_at(saw[i + 1]) != ix.key_at(saw[i]) {
             readings.push(Reading {
                 position: saw[i],
                 reader,

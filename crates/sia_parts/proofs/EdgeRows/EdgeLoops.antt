@@ -1,6 +1,6 @@
 -- Rows of edges, position by position and key by key.
-use Rattle.std.proofs.Common.{◌≡◌, ◌≢◌, ◌⊎◌, inl, inr, ℕ, ◌+◌, ◌<◌, ◌≤◌, List, [], ◌∷◌, ◌++◌, Option, Some, None, length, take, refl, ap, sym, subst, arith}
-use Rattle.std.specs.Prelude.{Contains, MatchOption, slice_index_or, unwrap_or}
+use Rattle.std.proofs.Common.{◌≡◌, ◌≢◌, ◌⊎◌, inl, inr, ℕ, ◌+◌, ◌<◌, ◌≤◌, List, [], ◌∷◌, ◌++◌, length, take, refl, sym, subst, arith}
+use Rattle.std.specs.Prelude.{Contains, slice_index_or}
 use Rattle.std.proofs.lemmas.Bool.{cases_lt}
 use Rattle.sia_events.specs.declared.event.Event.{Event}
 use Rattle.sia_events.specs.declared.event.Event.TheVariants.{Commit}
@@ -39,8 +39,8 @@ abbrev MakerAt : List Event → ℕ → Kind → ℕ → ℕ → EdgeTo → Type
 MakerAt h i kind q n row = (row.kind ≡ kind) × (row.target ≢ i) × IsOfKey h row.key q × IsMadeAt h row.target row.key n
 
 module _ (h : List Event) (i : ℕ) where
-  pub makers_none : (kind : Kind) (q : ℕ) (old : List EdgeTo) → Adds (MakersBelow h i kind q (q + 1)) old old
-  makers_none kind q old = adds_nothing (MakersBelow h i kind q (q + 1)) old (λ row is. let low = is.4 in let high = is.5 in omega arith)
+  pub makers_none : (kind : Kind) (q n : ℕ) (old : List EdgeTo) → n ≤ q + 1 → Adds (MakersBelow h i kind q n) old old
+  makers_none kind q n old none = adds_nothing (MakersBelow h i kind q n) old (λ row is. let low = is.4 in let high = is.5 in omega arith)
 
   -- one position has one maker and one key
   one_maker : (n u w j k : ℕ) → IsMadeAt h u j n → IsMadeAt h w k n → (u ≡ w) × (j ≡ k)
@@ -51,10 +51,10 @@ module _ (h : List Event) (i : ℕ) where
       )
 
   -- the next one is added
-  pub makers_push : (kind : Kind) (q n u j : ℕ) (old mid : List EdgeTo) → IsOfKey h j q → IsMadeAt h u j n → q < n → u ≢ i
-      → Adds (MakersBelow h i kind q n) old mid → Adds (MakersBelow h i kind q (n + 1)) old (mid ++ record { target = u; kind = kind; key = j } ∷ [])
-  makers_push kind q n u j old mid of made less other before =
-      adds_same (λ row. MakersBelow h i kind q n row ⊎ MakerAt h i kind q n row) (MakersBelow h i kind q (n + 1)) old (mid ++ record { target = u; kind = kind; key = j } ∷ [])
+  pub makers_push : (kind : Kind) (q n m u j : ℕ) (old mid : List EdgeTo) → m ≡ n + 1 → IsOfKey h j q → IsMadeAt h u j n → q < n → u ≢ i
+      → Adds (MakersBelow h i kind q n) old mid → Adds (MakersBelow h i kind q m) old (mid ++ record { target = u; kind = kind; key = j } ∷ [])
+  makers_push kind q n m u j old mid next of made less other before =
+      adds_same (λ row. MakersBelow h i kind q n row ⊎ MakerAt h i kind q n row) (MakersBelow h i kind q m) old (mid ++ record { target = u; kind = kind; key = j } ∷ [])
       (λ row e. elim e [
         | inl is ↦ (is.0, is.1, is.2, is.3, is.4, (let high = is.5 in omega arith), is.6)
         | inr is ↦ (is.0, is.1, is.2, n, less, omega arith, is.3)
@@ -69,26 +69,15 @@ module _ (h : List Event) (i : ℕ) where
       row_is : (row : EdgeTo) → row.kind ≡ kind → (u ≡ row.target) × (j ≡ row.key) → record { target = u; kind = kind; key = j } ≡ row
       row_is row same both = λ x. record { target = both.0 x; kind = sym same x; key = both.1 x }
 
-  -- or there is none but the source
-  pub makers_skip : (kind : Kind) (q n : ℕ) (old mid : List EdgeTo) → ((u j : ℕ) → IsMadeAt h u j n → u ≡ i) → Adds (MakersBelow h i kind q n) old mid → Adds (MakersBelow h i kind q (n + 1)) old mid
-  makers_skip kind q n old mid own before = adds_same (MakersBelow h i kind q n) (MakersBelow h i kind q (n + 1)) old mid
+  -- or it is the source's own
+  pub makers_skip : (kind : Kind) (q n m j : ℕ) (old mid : List EdgeTo) → m ≡ n + 1 → IsMadeAt h i j n → Adds (MakersBelow h i kind q n) old mid → Adds (MakersBelow h i kind q m) old mid
+  makers_skip kind q n m j old mid next own before = adds_same (MakersBelow h i kind q n) (MakersBelow h i kind q m) old mid
       (λ row is. (is.0, is.1, is.2, is.3, is.4, (let high = is.5 in omega arith), is.6))
       (λ row is. elim (cases_lt is.3 n) [
         | inl below ↦ (is.0, is.1, is.2, is.3, is.4, below, is.6)
-        | inr last ↦ let here : is.3 ≡ n = (let high = is.5 in omega arith) in absurd (is.1 (own row.target row.key (subst (IsMadeAt h row.target row.key) here is.6)))
+        | inr last ↦ let here : is.3 ≡ n = (let high = is.5 in omega arith) in absurd (is.1 (one_maker n row.target i row.key j (subst (IsMadeAt h row.target row.key) here is.6) own).0)
       ])
       before
-
-  -- who made the version there, by what an index answers
-  pub maker_at : (n j : ℕ) (o : Option ℕ) (v : KeyVersion) → IsAtPosition h n v → IsKeyAt h j v.key → MatchOption o (v.commit ≡ 0) (λ u. (0 < v.commit) × IsCommittedAt h u v.txn)
-      → (unwrap_or o i ≢ i → IsMadeAt h (unwrap_or o i) j n) × ((u k : ℕ) → IsMadeAt h u k n → u ≡ unwrap_or o i)
-  maker_at n j None v at key none = (
-    (λ other. absurd (other refl)),
-    (λ u k made. absurd (let zero = ap (λ (w : KeyVersion). w.commit) (one_version h n v made.version at made.at) in let above = made.made in omega arith)),
-  )
-  maker_at n j (Some u) v at key is =
-      let own : IsMadeAt h u j n = record { version = v; at = at; key = key; made = is.0; maker = is.1 } in
-      ((λ other. own), (λ w k made. (one_maker n w u k j made own).0))
 
   pub makers_all : (kind : Kind) (q e n : ℕ) (old new : List EdgeTo) → IsKeyEnd h q e → e ≤ n → Adds (MakersBelow h i kind q n) old new → Adds (IsMakerRow h i kind q) old new
   makers_all kind q e n old new end last = adds_same (MakersBelow h i kind q n) (IsMakerRow h i kind q) old new

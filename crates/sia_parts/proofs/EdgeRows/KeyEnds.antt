@@ -1,26 +1,22 @@
 -- Where the positions of a key end: behind those of all keys up to it.
-use Rattle.std.proofs.Common.{◌≡◌, inl, inr, ℕ, ◌+◌, ◌<◌, ◌≤◌, List, Option, Some, length, rules, ap, sym, subst, ◌∙◌, arith}
+use Rattle.std.proofs.Common.{◌≡◌, inl, inr, ℕ, ◌+◌, ◌-◌, ◌<◌, ◌≤◌, List, Option, Some, length, rules, refl, ap, sym, subst, ◌∙◌, arith}
 use Rattle.std.proofs.Math.Dec.{leb}
-use Rattle.std.specs.Prelude.{◌↔◌, IsTrue, slice_index}
-use Rattle.std.proofs.lemmas.Bool.{cases_lt, leb-true}
-use Rattle.std.proofs.lemmas.List.{get_or_default}
+use Rattle.std.specs.Prelude.{◌↔◌, IsTrue, slice_index, slice_index_or}
+use Rattle.std.proofs.lemmas.Bool.{cases_eq, cases_lt, leb-true}
 use Rattle.sia_events.specs.declared.event.Event.{Event}
 use Rattle.sia_events.specs.Transactions.{Wrote}
 use Rattle.sia_index.specs.declared.info.KeyVersion.{KeyVersion}
 use Rattle.sia_index.specs.Info.{AreWrittenKeys, IsKeyAt}
-use Rattle.sia_index.specs.Positions.{HasPosition, IsAtPosition, IsVersion}
+use Rattle.sia_index.specs.Positions.{AreMakersBehind, IsAtPosition}
 use Rattle.sia_index.proofs.Shared.KeyChains.{key_number}
 use Rattle.sia_index.proofs.Shared.Ordered.{ascends}
 use Rattle.sia_parts.specs.declared.cutting.Part.{Part}
-use Rattle.sia_parts.specs.EdgeRows.{IsKeyEnd, IsOfKey}
+use Rattle.sia_parts.specs.EdgeRows.{IsKeyEnd, IsMadeAt}
 use Rattle.sia_parts.specs.Parts.{IsWithin}
-use Rattle.sia_parts.proofs.EdgeRows.PositionOrder.{ascends_at, is_version, one_version, same_number}
+use Rattle.sia_parts.proofs.Shared.OneNumber.{one_key}
+use Rattle.sia_parts.proofs.EdgeRows.PositionOrder.{ascends_at, one_version}
 
 module _ (h : List Event) (keys : List ℕ) (are : AreWrittenKeys h keys) where
-  -- the key of a version has a number
-  number_of : (v : KeyVersion) → IsVersion h v → (m : ℕ) × IsKeyAt h m v.key × (m < length keys)
-  number_of v is = let c = (are.each v.key).1 (elim is [ inl none ↦ none.0 | inr made ↦ (v.txn, made.0) ]) in (c.0, (keys, are, c.1, get_or_default keys c.0 0 v.key c.1 ∙ c.2), c.1)
-
   -- numbers go by keys
   less_key : (n m k l : ℕ) → IsKeyAt h n k → IsKeyAt h m l → n < m → k < l
   less_key n m k l a b less =
@@ -41,21 +37,32 @@ module _ (h : List Event) (keys : List ℕ) (are : AreWrittenKeys h keys) where
     ])
   ]
 
-  -- where the positions of the keys up to number n end
-  pub ends_at : (q n : ℕ) → IsOfKey h n q → (e : ℕ) → ((p : ℕ) → p < e → HasPosition h p) → ((p : ℕ) (v : KeyVersion) (j : ℕ) → IsAtPosition h p v → IsKeyAt h j v.key → (p < e) ↔ (j < n + 1)) → IsKeyEnd h q e
-  ends_at q n own e within parts = record {
-    of = (n, own);
-    there = λ p low below. within p below;
-    own = λ j p of low below. (
-        let here = within p below in
-        let w = here.0 in
-        let number = number_of w (is_version h p w here.1) in
-        let from = rises_at q p n number.0 own.version w own.at here.1 own.key number.1 low in
-        let to = (parts p w number.0 here.1 number.1).0 below in
-        let same : number.0 ≡ n = omega arith in
-        record { version = w; at = here.1; key = subst (λ m. IsKeyAt h m w.key) (same ∙ sym (same_number h j n q of own)) number.1 });
-    past = λ j p of other. (parts p other.version n other.at (subst (λ m. IsKeyAt h m other.version.key) (same_number h j n q of own) other.key)).1 (omega arith);
+module _ (h : List Event) (q : ℕ) (v : KeyVersion) (at : IsAtPosition h q v) (makers : List ℕ) (behind : AreMakersBehind h q v makers) where
+  pub up_to_last : (p : ℕ) → q ≤ p → p < q + 1 + length makers → (w : KeyVersion) × IsAtPosition h p w × (w.key ≡ v.key)
+  up_to_last p low high = elim (cases_eq p q) [
+    | inl same ↦ (v, subst (λ n. IsAtPosition h n v) (sym same) at, refl)
+    | inr other ↦
+        let place : q + 1 + (p - (q + 1)) ≡ p = omega arith in
+        let is = behind.each (p - (q + 1)) 0 (omega arith) in
+        (is.0, subst (λ n. IsAtPosition h n is.0) place is.1, is.2)
+  ]
+
+  -- the positions of a key end behind its last version
+  pub ends_behind : (j : ℕ) → IsKeyAt h j v.key → IsKeyEnd h q (q + 1 + length makers)
+  ends_behind j key = record {
+    of = (j, record { version = v; at = at; key = key });
+    there = λ p low high. let is = up_to_last p low high in (is.0, is.1);
+    own = λ i p of low high. (
+        let is = up_to_last p low high in
+        record { version = is.0; at = is.1; key = subst (IsKeyAt h i) (ap (λ (x : KeyVersion). x.key) (one_version h q of.version v of.at at) ∙ sym is.2) of.key });
+    past = λ i p of other. (
+        let own : IsKeyAt h i v.key = subst (λ (x : KeyVersion). IsKeyAt h i x.key) (one_version h q of.version v of.at at) of.key in
+        let last = behind.all p other.version other.at (one_key h i other.version.key v.key other.key own) in
+        omega arith);
   }
+
+  pub made_behind : (i d j : ℕ) → i < length makers → IsKeyAt h j v.key → IsMadeAt h (slice_index_or makers i d) j (q + 1 + i)
+  made_behind i d j below key = let is = behind.each i d below in record { version = is.0; at = is.1; key = subst (IsKeyAt h j) (sym is.2) key; made = is.3; maker = is.4 }
 
 -- whether a key is within
 pub within_part : (within : Option Part) (part : Part) → within ≡ Some part → (x k : ℕ) → x ≡ k → part.lo ≤ x → IsTrue (leb x part.hi) ↔ IsWithin within k

@@ -9,7 +9,7 @@ use Rattle.sia_events.proofs.Worked.OneList.{one_list_by}
 use Rattle.sia_index.specs.declared.info.KeyVersion.{KeyVersion}
 use Rattle.sia_index.specs.Info.{IsKeyAt}
 use Rattle.sia_index.specs.Positions.{AreAllVersions, ArePositions, HasPosition, IsAtPosition, IsVersion}
-use Rattle.sia_parts.specs.EdgeRows.{IsMadeAt, IsOfKey}
+use Rattle.sia_parts.specs.EdgeRows.{IsMadeAt, IsOfKey, StandsBehind}
 use Rattle.sia_parts.proofs.Shared.OneNumber.{one_key, one_key_number}
 
 module _ (h : List Event) where
@@ -84,6 +84,9 @@ module _ (h : List Event) where
 
   pub same_number : (i j q : ℕ) → IsOfKey h i q → IsOfKey h j q → i ≡ j
   same_number i j q a b = one_key_number h i j a.version.key a.key (subst (λ (v : KeyVersion). IsKeyAt h j v.key) (one_version q b.version a.version b.at a.at) b.key)
+
+  pub stands_behind : (j q p : ℕ) → q ≤ p → IsOfKey h j q → IsOfKey h j p → StandsBehind h q p
+  stands_behind j q p le a b = record { le = le; forth = λ i of. subst (λ n. IsOfKey h n p) (same_number j i q a of) b; back = λ i of. subst (λ n. IsOfKey h n q) (same_number j i p b of) a }
 
   -- what stands between two positions of a key is of it
   pub between_of_key : (j q p x : ℕ) → IsOfKey h j q → IsOfKey h j x → q ≤ p → p ≤ x → HasPosition h p → IsOfKey h j p

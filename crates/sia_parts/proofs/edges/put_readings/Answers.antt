@@ -1,20 +1,17 @@
 -- A reading of the position before, where it is the newest of its key. Else the next one has one that serves.
-use Rattle.std.proofs.Common.{◌≡◌, ◌+◌, ◌-◌, ◌<◌, sym, subst, arith}
+use Rattle.std.proofs.Common.{◌≡◌, ◌+◌, ◌-◌, sym, subst, arith}
 use Rattle.std.specs.Prelude.{slice_index}
+use Rattle.sia_index.specs.Info.{IsKeyAt}
+use Rattle.sia_parts.specs.EdgeRows.{StandsBehind}
 use Rattle.sia_parts.proofs.EdgeRows.AccessRows.{reads_all, reads_none, reads_push, reads_same}
-use Rattle.sia_parts.proofs.EdgeRows.KeyEnds.{ends_at}
-use Rattle.sia_parts.proofs.EdgeRows.Room.{key_stands}
-use Rattle.sia_parts.proofs.Shared.FewNumbers.{few_keys}
+use Rattle.sia_parts.proofs.EdgeRows.PositionOrder.{stands_behind}
 use Rattle.sia_parts.proofs.edges.put_readings.Goals as goal
 
 pub key_at-requires : goal.key_at-requires
-key_at-requires c = c.requires.positions (c.loop-i.i - 1) 0 (let most = c.loop-i.auto.i in let some = c.loop-i-test.true in omega arith)
+key_at-requires c = c.requires.positions (c.loop-i.i - 1 + 1) 0 (let most = c.loop-i.auto.i in let some = c.loop-i-test.true in let other = c.if-i-saw.false in omega arith)
 
-pub overflow_add-key_at : goal.overflow_add-key_at
-overflow_add-key_at c =
-    let at = c.requires.positions (c.loop-i.i - 1) 0 (let most = c.loop-i.auto.i in let some = c.loop-i-test.true in omega arith) in
-    let few = few_keys c.args.ix.now c.law.ensures c.key_at.result at.0.key (c.key_at.ensures at.0 at.1) in
-    omega arith
+pub key_at-requires-else-i-saw : goal.key_at-requires-else-i-saw
+key_at-requires-else-i-saw c = c.requires.positions (c.loop-i.i - 1) 0 (let most = c.loop-i.auto.i in let some = c.loop-i-test.true in omega arith)
 
 pub loop-i-init : goal.loop-i-init
 loop-i-init c = reads_none c.args.ix.now c.args.reader c.args.saw.now c.args.readings.now.items _ (omega arith)
@@ -24,12 +21,14 @@ loop-i-preserved c =
     let some = c.loop-i-test.true in
     let most = c.loop-i.auto.i in
     let next : c.loop-i.i - 1 + 1 ≡ c.loop-i.i = omega arith in
-    let at = c.requires.positions (c.loop-i.i - 1) 0 (omega arith) in
-    let key = c.key_at.ensures at.0 at.1 in
-    let end = ends_at c.args.ix.now key.0 key.1 (slice_index c.args.saw.now (c.loop-i.i - 1)) c.key_at.result (record { version = at.0; at = at.1; key = key }) c.first_or_end.result c.first_or_end.ensures.within c.first_or_end.ensures.parts in
-    reads_same c.args.ix.now c.args.reader c.args.saw.now c.args.readings.now.items (c.loop-i.i - 1) c.loop-i.i (sym next) (omega arith) _ c.loop-i.invariant (let other = c.if-i-saw.false in omega arith)
-    (key_stands c.args.ix.now _ c.first_or_end.result end (slice_index c.args.saw.now c.loop-i.i) (c.requires.rise (c.loop-i.i - 1) c.loop-i.i 0 (omega arith) (let other = c.if-i-saw.false in omega arith))
-    (subst (λ n. slice_index c.args.saw.now n < c.first_or_end.result) next c.if-saw-i.false))
+    let other = c.if-i-saw.false in
+    let first = c.requires.positions (c.loop-i.i - 1) 0 (omega arith) in
+    let second = c.requires.positions (c.loop-i.i - 1 + 1) 0 (omega arith) in
+    let own = c.key_at-else-i-saw.ensures first.0 first.1 in
+    let behind = subst (λ j. IsKeyAt c.args.ix.now j second.0.key) c.if-key_at.false (c.key_at.ensures second.0 second.1) in
+    reads_same c.args.ix.now c.args.reader c.args.saw.now c.args.readings.now.items (c.loop-i.i - 1) c.loop-i.i (sym next) (omega arith) _ c.loop-i.invariant (omega arith)
+    (subst (λ n. StandsBehind c.args.ix.now (slice_index c.args.saw.now (c.loop-i.i - 1)) (slice_index c.args.saw.now n)) next
+    (stands_behind c.args.ix.now c.key_at-else-i-saw.result _ _ (c.requires.rise (c.loop-i.i - 1) (c.loop-i.i - 1 + 1) 0 (omega arith) (omega arith)) (record { version = first.0; at = first.1; key = own }) (record { version = second.0; at = second.1; key = behind })))
 
 pub loop-i-preserved-in-loop-i : goal.loop-i-preserved-in-loop-i
 loop-i-preserved-in-loop-i c =
