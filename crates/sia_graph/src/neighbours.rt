@@ -188,15 +188,11 @@ impl<'a> Neighbours<'a> {
             × OverlapsBehind self.now.evidence.index.now number position n.txn) (result - position)
             rows.old rows.new }
     {
-        let index = self.evidence.index;
-        let _positions = index.position_count();
-        let mut at = position;
-        while let Some(next) = index.next_position(at) {
-            let maker = index.maker_at(next).unwrap_or(number);
-            self.put_if_overlaps(number, maker, Role::Out, rows);
-            at = next;
+        let makers = self.evidence.index.makers_behind(position);
+        for maker in makers {
+            self.put_if_overlaps(number, *maker, Role::Out, rows);
         }
-        at + 1
+        position + 1 + makers.len() as u32
     }
 
     /// Adds those who have a vulnerable edge to the transaction.

@@ -9,16 +9,15 @@ use Rattle.std.proofs.lemmas.List.Elements.{Contains-get_or}
 use Rattle.std.proofs.lemmas.List.Sorted.{Contains-permutation, IsPermutation-sym}
 use Rattle.sia_events.specs.declared.event.Event.{Event}
 use Rattle.sia_events.specs.declared.event.Event.TheVariants.{Commit}
-use Rattle.sia_events.specs.NarrowDependencies.{CommitsVersion, IsNextVersion, Looked}
+use Rattle.sia_events.specs.NarrowDependencies.{CommitsVersion, Looked}
 use Rattle.sia_events.specs.Refusals.{IsWellFormed}
-use Rattle.sia_events.specs.Transactions.{CommitsAt, Overlap}
-use Rattle.sia_events.proofs.OfLaws.Endings.{one_committer}
+use Rattle.sia_events.specs.Transactions.{Overlap}
 use Rattle.sia_events.proofs.Shared.TransactionDecisions.{place_within}
-use Rattle.sia_events.proofs.Writing.WellFormed.{few_events, one_commit}
+use Rattle.sia_events.proofs.Writing.WellFormed.{few_events}
 use Rattle.sia_index.specs.declared.info.KeyVersion.{KeyVersion}
 use Rattle.sia_index.specs.Info.{HasKeyAt, IsKeyAt}
 use Rattle.sia_index.specs.Numbers.{IsCommittedAt}
-use Rattle.sia_index.specs.Positions.{ArePositions, HasPosition, HasVersionUpTo, IsAtPosition, NoneBehind}
+use Rattle.sia_index.specs.Positions.{AreMakersBehind, ArePositions, HasPosition, HasVersionUpTo, IsAtPosition}
 use Rattle.sia_parts.specs.declared.accesses.Accesses.{Accesses}
 use Rattle.sia_parts.specs.declared.accesses.RangeMiss.{RangeMiss}
 use Rattle.sia_parts.specs.Accesses.{AreAccesses, HasMiss, Missed, SawPosition}
@@ -27,7 +26,7 @@ use Rattle.sia_parts.specs.Sights.{Adds, FromSome}
 use Rattle.sia_parts.proofs.EdgeRows.AccessRows.{first_below, first_kept, first_last}
 use Rattle.sia_parts.proofs.EdgeRows.EdgeLoops.{ReachesTo}
 use Rattle.sia_parts.proofs.EdgeRows.KeyEnds.{rises_at}
-use Rattle.sia_parts.proofs.EdgeRows.PositionOrder.{ascends_at, by_commit_from as commits_most, one_version as one_at}
+use Rattle.sia_parts.proofs.EdgeRows.PositionOrder.{ascends_at, by_commit as commits_less, by_commit_from as commits_most, by_position as positions_less, one_version as one_at, position_of}
 use Rattle.sia_parts.proofs.EdgeRows.Room.{StandFrom}
 use Rattle.sia_parts.proofs.Shared.Adding.{FromFirst, adds_both, adds_nothing, adds_same, first_more}
 use Rattle.sia_graph.specs.declared.neighbours.Neighbour.{Neighbour}
@@ -38,6 +37,7 @@ use Rattle.sia_graph.specs.Links.{EndsBehind, IsVulnerableAt, OverlapsAfter, Ove
 use Rattle.sia_graph.proofs.Shared.AccessLists.{missed_is, saw_is, saw_position}
 use Rattle.sia_graph.proofs.Shared.PositionEdges.{look_of_rw, rw_from_look}
 use Rattle.sia_graph.proofs.Shared.EarlierSources.{positions_below}
+use Rattle.sia_graph.proofs.Shared.Numbered.{commits_at}
 use Rattle.sia_parts.proofs.Shared.OneNumber.{one_committed_number as one_number, one_key as one_key_at, one_committed as one_txn_at}
 
 -- nothing, the same, and one after another
@@ -78,13 +78,9 @@ adds_then P Q R old mid new same first second = adds_same (λ n. IsOut P n ⊎ I
 pub first_all : {A B : Type 0} (P : A → B → Type 0) (xs : List A) (n : ℕ) → length xs ≤ n → (j : B) → FromFirst P xs n j ↔ FromSome P xs j
 first_all P xs n all j = subst (λ ys. FromFirst P xs n j ↔ FromSome P ys j) (take_all n xs all) ((λ f. f), (λ f. f))
 
--- who commits a version of k behind place c and up to place e
-abbrev pub OverlapsUpTo : List Event → ℕ → ℕ → ℕ → ℕ → ℕ → Type 0
-OverlapsUpTo h i k c e j = (t : ℕ) × (u : ℕ) × (d : ℕ) × IsCommittedAt h i t × IsCommittedAt h j u × CommitsVersion h k u d × (c < d) × (d ≤ e) × (j ≢ i) × Overlap h t u
-
--- the maker of the version
-abbrev pub OverlapsAt : List Event → ℕ → KeyVersion → ℕ → Type 0
-OverlapsAt h i w j = (t : ℕ) × IsCommittedAt h i t × IsCommittedAt h j w.txn × (j ≢ i) × Overlap h t w.txn
+-- the maker, where it is another and overlaps i
+abbrev pub OverlapsMaker : List Event → ℕ → ℕ → ℕ → Type 0
+OverlapsMaker h i maker j = (j ≡ maker) × (j ≢ i) × OverlapAt h i j
 
 abbrev pub span : ℕ → ℕ → RangeMiss
 span from to = record { from = from; to = to }
@@ -123,23 +119,42 @@ module _ (h : List Event) where
   ]
 
 module _ (h : List Event) (i : ℕ) where
-  -- who is put for the maker of a version
-  pub put_maker : (other : ℕ) (w : KeyVersion) → IsCommittedAt h other w.txn → (n : Neighbour) → ((n ≡ record { role = Out; txn = other }) × (other ≢ i) × OverlapAt h i other) ↔ IsOut (OverlapsAt h i w) n
-  put_maker other w made n = (
+  -- who is put for a maker
+  pub put_maker : (maker : ℕ) (n : Neighbour) → ((n ≡ record { role = Out; txn = maker }) × (maker ≢ i) × OverlapAt h i maker) ↔ IsOut (OverlapsMaker h i maker) n
+  put_maker maker n = (
     (λ p.
-        let number : n.txn ≡ other = ap (λ (x : Neighbour). x.txn) p.0 in
-        let o = p.2 in
-        let one = one_txn_at h other o.1 w.txn o.3 made in (
-          ap (λ (x : Neighbour). x.role) p.0,
-          (o.0, o.2, subst (λ m. IsCommittedAt h m w.txn) (sym number) made, subst (λ m. m ≢ i) (sym number) p.1, subst (Overlap h o.0) one o.4),
-        )),
-    (λ p.
-        let number : n.txn ≡ other = one_number h n.txn other w.txn p.1.2 made in (
-          (λ x. record { role = p.0 x; txn = number x }),
-          subst (λ m. m ≢ i) number p.1.3,
-          (p.1.0, w.txn, p.1.1, made, p.1.4),
-        )),
+        let number : n.txn ≡ maker = ap (λ (x : Neighbour). x.txn) p.0 in
+        (ap (λ (x : Neighbour). x.role) p.0, (number, subst (λ m. m ≢ i) (sym number) p.1, subst (OverlapAt h i) (sym number) p.2))),
+    (λ p. ((λ x. record { role = p.0 x; txn = p.1.0 x }), subst (λ m. m ≢ i) p.1.0 p.1.1, subst (OverlapAt h i) p.1.0 p.1.2)),
   )
+
+  -- those of the makers behind a position are all behind it
+  pub makers_all : (q : ℕ) (v : KeyVersion) → IsAtPosition h q v → (makers : List ℕ) → AreMakersBehind h q v makers → (n : ℕ) → length makers ≤ n → (j : ℕ) → FromFirst (OverlapsMaker h i) makers n j ↔ OverlapsBehind h i q j
+  makers_all q v at makers behind n all j =
+      let some = first_all (OverlapsMaker h i) makers n all j in (
+        (λ f.
+            let (maker, c, p) = some.0 f in
+            let w = behind.each c.0 maker c.1 in
+            let number : get_or makers c.0 maker ≡ j = c.2 ∙ sym p.0 in
+            let own = subst (λ m. IsCommittedAt h m w.0.txn) number w.4 in
+            let o = p.2 in
+            let made = subst (λ k. CommitsVersion h k w.0.txn w.0.commit) w.2 (commits_at h (q + 1 + c.0) w.0 w.1 w.3) in
+            let after = commits_less h q (q + 1 + c.0) v w.0 at w.1 (sym w.2) (omega arith) in
+            (v, at, (o.0, w.0.txn, w.0.commit, o.2, own, made, after, p.1, subst (Overlap h o.0) (one_txn_at h j o.1 w.0.txn o.3 own) o.4))),
+        (λ b.
+            let a : OverlapsAfter h i v.key v.commit j = subst (λ (y : KeyVersion). OverlapsAfter h i y.key y.commit j) (one_at h q b.0 v b.1 at) b.2 in
+            let w : KeyVersion = record { key = v.key; commit = a.2; txn = a.1 } in
+            let p = position_of h at.0 at.1 w (inr a.5) in
+            let after = positions_less h q p.0 v w at p.1 refl a.6 in
+            let most = behind.all p.0 w p.1 refl in
+            let m = p.0 - (q + 1) in
+            let below : m < length makers = omega arith in
+            let place : q + 1 + m ≡ p.0 = omega arith in
+            let is = behind.each m 0 below in
+            let same = one_at h p.0 is.0 w (subst (λ x. IsAtPosition h x is.0) place is.1) p.1 in
+            let number = one_number h j (get_or makers m 0) a.1 a.4 (subst (λ (y : KeyVersion). IsCommittedAt h (get_or makers m 0) y.txn) same is.4) in
+            some.1 (get_or makers m 0, Contains-get_or makers m 0 below, (number, a.7, (a.0, a.1, a.3, a.4, a.8)))),
+      )
 
   -- what is behind a position is behind an older one of the same key
   pub behind_older : (q p : ℕ) (v w : KeyVersion) → q ≤ p → IsAtPosition h q v → IsAtPosition h p w → w.key ≡ v.key → (j : ℕ) → OverlapsBehind h i p j → OverlapsBehind h i q j
@@ -171,38 +186,6 @@ module _ (h : List Event) (i : ℕ) where
         )
 
   module _ (wf : IsWellFormed h) where
-    module _ (v : KeyVersion) where
-      pub up_to_none : (j : ℕ) → ¬ OverlapsUpTo h i v.key v.commit v.commit j
-      up_to_none j p = let a = p.6 in let b = p.7 in omega arith
-
-      pub up_to_next : (x w : KeyVersion) → x.key ≡ v.key → v.commit ≤ x.commit → w.key ≡ x.key → CommitsVersion h w.key w.txn w.commit → IsNextVersion h x.key x.commit w.txn
-          → (j : ℕ) → (OverlapsUpTo h i v.key v.commit x.commit j ⊎ OverlapsAt h i w j) ↔ OverlapsUpTo h i v.key v.commit w.commit j
-      up_to_next x w key low same own next j =
-          let commit : next.0 ≡ w.commit = one_commit h wf w.txn next.0 w.commit next.1.1 own.1 in
-          let after = next.2 in (
-            (λ e. elim e [
-              | inl p ↦ (p.0, p.1, p.2, p.3, p.4, p.5, p.6, (let l = p.7 in omega arith), p.8, p.9)
-              | inr p ↦ (p.0, w.txn, w.commit, p.1, p.2, subst (λ k. CommitsVersion h k w.txn w.commit) (same ∙ key) own, omega arith, omega arith, p.3, p.4)
-            ]),
-            (λ p. elim (cases_lt x.commit p.2) [
-              | inr under ↦ inl (p.0, p.1, p.2, p.3, p.4, p.5, p.6, under, p.8, p.9)
-              | inl over ↦
-                  let l = next.3 p.1 p.2 (subst (λ k. CommitsVersion h k p.1 p.2) (sym key) p.5) over in
-                  let e : p.2 ≡ w.commit = omega arith in
-                  let one : p.1 ≡ w.txn = one_committer h p.1 w.txn w.commit (subst (CommitsAt h p.1) e p.5.1) own.1 in
-                  inr (p.0, p.3, subst (IsCommittedAt h j) one p.4, p.8, subst (Overlap h p.0) one p.9)
-            ]),
-          )
-
-      -- those are all, where none is left
-      pub up_to_last : (x : KeyVersion) → x.key ≡ v.key → NoneBehind h x.key x.commit → (q : ℕ) → IsAtPosition h q v → (j : ℕ) → OverlapsUpTo h i v.key v.commit x.commit j ↔ OverlapsBehind h i q j
-      up_to_last x key none q at j = (
-        (λ p. (v, at, (p.0, p.1, p.2, p.3, p.4, p.5, p.6, p.8, p.9))),
-        (λ b.
-            let p : OverlapsAfter h i v.key v.commit j = subst (λ (y : KeyVersion). OverlapsAfter h i y.key y.commit j) (one_at h q b.0 v b.1 at) b.2 in
-            (p.0, p.1, p.2, p.3, p.4, p.5, p.6, none p.1 p.2 (subst (λ k. CommitsVersion h k p.1 p.2) (sym key) p.5), p.7, p.8)),
-      )
-
     visible : (k j : ℕ) → OverlapsAfter h i k 0 j → HasVersionUpTo h k 4294967295
     visible k j p =
         let within = (place_within h p.2 (Commit p.1) p.5.1).1 in

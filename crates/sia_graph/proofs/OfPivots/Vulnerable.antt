@@ -1,8 +1,8 @@
 -- Lists of links in order, and those that have one number at an end.
 -- Lifetimes and makers by the numbers of transactions.
 -- Vulnerable edges of a well-formed history by the numbers of their ends, and the commits of their sources.
-use Rattle.std.proofs.Common.{◌≡◌, ℕ, ◌<◌, List, [], ◌∷◌, ◌==◌, Bool, true, false, not, eqb, length, get_or, refl, sym, subst, ◌∙◌, arith, Option, inl, inr, map}
-use Rattle.std.specs.Prelude.{◌↔◌, Contains, IsTrue, MatchOption, unwrap_or, ⊤, AllPairs, slice_index}
+use Rattle.std.proofs.Common.{◌≡◌, ℕ, ◌<◌, List, [], ◌∷◌, ◌==◌, Bool, true, false, not, eqb, length, get_or, refl, sym, subst, ◌∙◌, arith, inl, inr, map}
+use Rattle.std.specs.Prelude.{◌↔◌, Contains, IsTrue, ⊤, AllPairs, slice_index}
 use Rattle.std.specs.Ordering.{nat_cmp, ordering_then}
 use Rattle.std.specs.declared.cmp.Ordering.{Ordering}
 use Rattle.std.specs.declared.cmp.Ordering.TheVariants.{Less}
@@ -18,7 +18,6 @@ use Rattle.sia_graph.specs.Links.{ListsLinks, link_rank, IsVulnerableAt}
 use Rattle.sia_index.proofs.Shared.Ordered.{precedes_last, precedes_then}
 use Rattle.sia_events.specs.declared.event.Event.{Event}
 use Rattle.sia_events.specs.Transactions.{IsCommitted, CommitsAt, Overlap}
-use Rattle.sia_index.specs.declared.info.KeyVersion.{KeyVersion}
 use Rattle.sia_index.specs.declared.info.Lifetime.{Lifetime}
 use Rattle.sia_index.specs.Lifetimes.{AreLifetimes, IsLifetime}
 use Rattle.sia_index.specs.Numbers.{IsCommittedAt}
@@ -74,10 +73,6 @@ lived h lifetimes are i t at =
     let all = are at.0 at.1 in
     let below = at.2 in
     (omega arith, λ d. subst (λ u. IsLifetime h u (get_or lifetimes i d)) at.3 (all.each i d below))
-
--- who made the version at a position, by what an index answers
-pub maker_is : (h : List Event) (i : ℕ) (o : Option ℕ) (w : KeyVersion) → MatchOption o (w.commit ≡ 0) (λ j. (0 < w.commit) × IsCommittedAt h j w.txn) → 0 < w.commit → IsCommittedAt h (unwrap_or o i) w.txn
-maker_is h i o w p q = grind arith
 
 -- both ends of a vulnerable edge committed
 pub target_committed : (h : List Event) (t u : ℕ) → IsVulnerable h t u → IsCommitted h u
