@@ -101,7 +101,7 @@ impl<'a> Edges<'a> {
             missed: accesses.missed.in_order(alloc)?,
         };
         let saw = &accesses.saw;
-        let mut readings = Vec::new(alloc);
+        let mut readings = Vec::with_capacity(alloc, saw.rows().len())?;
         index.law();
         let txns = index.committed();
         for reader in 0..txns.len() as u32 {

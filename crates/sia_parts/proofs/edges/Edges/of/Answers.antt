@@ -10,7 +10,7 @@ pub overflow_cast-reader-end : goal.overflow_cast-reader-end
 overflow_cast-reader-end c = let few = few_txns c.args.index.now c.law.ensures c.committed-txns.result.now c.committed-txns.ensures in omega arith
 
 pub loop-reader-init : goal.loop-reader-init
-loop-reader-init c = rw c.new-readings.ensures.items (readings_none c.args.index.now _)
+loop-reader-init c = rw c.in_ok-readings.ensures.items (readings_none c.args.index.now _)
 
 pub at-requires : goal.at-requires
 at-requires c = (let long = c.in_ok-in_order.ensures.long in let all = c.requires.saw_long c.committed-txns.result.now c.committed-txns.ensures in let below = c.loop-reader-test.true in omega arith)
