@@ -15,6 +15,7 @@ pub mod Devices
 pub mod Spaced
 pub mod Found
 pub mod Spelled
+pub mod Blocks
 pub mod Sheet
 pub mod Giving
 pub mod EdgeLines

@@ -44,12 +44,12 @@ abbrev pub lead_words : ℕ → Option Role → Role → List ℕ
 lead_words t before role = if begins before role then role_words t role else []
 
 -- the rest of the line: these rows, and its end
-abbrev pub line_from : ℕ → List Word → Option Role → List Neighbour → List ℕ
+abbrev pub line_from : {n : ℕ} → ℕ → List (Word n) → Option Role → List Neighbour → List ℕ
 line_from t words before [] = codes "\n"
 line_from t words before (n ∷ rows) = lead_words t before n.role ++ word_at words n.txn ++ line_from t words (Some n.role) rows
 
 -- there is none where no rows are left
-abbrev pub rest_of : ℕ → List Word → Option Role → List Neighbour → List ℕ
+abbrev pub rest_of : {n : ℕ} → ℕ → List (Word n) → Option Role → List Neighbour → List ℕ
 rest_of t words before [] = []
 rest_of t words before (n ∷ rows) = line_from t words before (n ∷ rows)
 

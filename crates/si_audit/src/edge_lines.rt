@@ -73,15 +73,16 @@ impl Told for EdgeLines<'_> {
 
     fn put_rows(&self, number: u32, rows: &[EdgeTo], row: usize, sheet: &mut Sheet) -> usize {
         let source = u64::from(self.txns.get(number as usize).copied().unwrap_or(0));
-        let head = Word::of(b"edge ", source, b" ");
-        let heads = [head.with(b"ww"), head.with(b"wr"), head.with(b"rw")];
+        let head = Word::<16>::of(b"edge ", source, b"");
+        let kinds: [Word<4>; 3] = [Word::new(b" ww"), Word::new(b" wr"), Word::new(b" rw")];
         let (txns, keys) = (&*self.spelled.txns, &*self.spelled.keys);
         let bytes = &mut *sheet.bytes;
         let mut end = sheet.end;
         let mut row = row;
         'putting: while row < rows.len() && end + ROOM <= bytes.len() {
             let to = &rows[row];
-            end = put(&heads, to.kind as u32, bytes, end);
+            end = head.put(bytes, end);
+            end = put(&kinds, to.kind as u32, bytes, end);
             end = put(txns, to.target, bytes, end);
             end = put(keys, to.key, bytes, end);
             row += 1;

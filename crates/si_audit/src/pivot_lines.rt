@@ -84,10 +84,10 @@ impl Told for PivotLines<'_> {
     fn put_rows(&self, number: u32, rows: &[Neighbour], row: usize, sheet: &mut Sheet) -> usize {
         let pivot = u64::from(self.txns.get(number as usize).copied().unwrap_or(0));
         let words = [
-            Word::of(b"pivot ", pivot, b" in"),
-            Word::from_bytes(b" out"),
-            Word::from_bytes(b" first"),
-            Word::from_bytes(b"\n"),
+            Word::<24>::of(b"pivot ", pivot, b" in"),
+            Word::new(b" out"),
+            Word::new(b" first"),
+            Word::new(b"\n"),
         ];
         let txns = &*self.spelled.txns;
         let bytes = &mut *sheet.bytes;

@@ -1,6 +1,7 @@
 //! Bytes that are made ahead, and given piece by piece.
 ghost use Rattle.std.specs.Prelude.{◌≡◌, ◌+◌, ◌<◌, ◌≤◌, ◌++◌, [], ℕ, List, IfOk, IsFalse, IsTrue, drop, length, map, slice_index_or, take, vec_capacity};
 ghost use Rattle.sia_events.specs.Text.{numeral};
+ghost use Rattle.si_audit.specs.Blocks.{word_in, word_len};
 
 use itoa::write_digits;
 use sia_events::NoMemory;
@@ -76,75 +77,74 @@ pub(crate) fn give_front(bytes: &mut &[u8], buffer: &mut Vec<u8>) -> bool
     n > 0
 }
 
-/// Some bytes of a line, the first ones of an array. All of it is copied where they are put: a length that is known is faster.
+/// Some bytes of a line, and in the last byte how many. All of it is copied where they are put: a length that is known is faster.
 #[derive(Clone, Copy)]
-pub(crate) struct Word {
-    bytes: [u8; 23],
-    len: u8,
-    ghost bounds: { len ≤ 23 },
+pub(crate) struct Word<const N: usize> {
+    bytes: [u8; N],
+    ghost bounds: { (word_len bytes < N) × (N ≤ 256) },
 }
 
-impl Word {
+impl<const N: usize> Word<N> {
     /// These bytes.
-    pub(crate) fn from_bytes(bytes: &[u8]) -> Word
-        requires { length bytes.now ≤ 23 }
-        ensures len { result.len ≡ length bytes.now }
-        ensures bytes { take result.len result.bytes ≡ bytes.now }
+    pub(crate) fn new(word: &[u8]) -> Word<N>
+        requires { (length word.now < N) × (N ≤ 256) }
+        ensures { word_in result.bytes ≡ word.now }
     {
-        let none = Word {
-            bytes: [0; 23],
-            len: 0,
-        };
-        none.with(bytes)
+        let mut bytes = [0; N];
+        bytes[N - 1] = append(&mut bytes[..], 0, word) as u8;
+        Word { bytes }
     }
 
     /// The number, between these bytes.
-    pub(crate) fn of(before: &[u8], n: u64, after: &[u8]) -> Word
-        requires { length before.now + length (numeral n) + length after.now ≤ 23 }
-        ensures len { result.len ≡ length before.now + length (numeral n) + length after.now }
-        ensures bytes { take result.len result.bytes ≡ before.now ++ numeral n ++ after.now }
+    pub(crate) fn of(before: &[u8], n: u64, after: &[u8]) -> Word<N>
+        requires { (length before.now + length (numeral n) + length after.now < N) × (N ≤ 256) }
+        ensures { word_in result.bytes ≡ before.now ++ numeral n ++ after.now }
     {
         let mut digits = [0; 20];
         let start = write_digits(n, &mut digits, 20);
-        Word::from_bytes(before).with(&digits[start..]).with(after)
-    }
-
-    /// It, and these bytes behind it.
-    #[inline]
-    pub(crate) fn with(&self, more: &[u8]) -> Word
-        requires { self.now.len + length more.now ≤ 23 }
-        ensures len { result.len ≡ self.now.len + length more.now }
-        ensures bytes { take result.len result.bytes ≡ take self.now.len self.now.bytes ++ more.now }
-    {
-        let from = usize::from(self.len);
-        let to = from + more.len();
-        let mut bytes = self.bytes;
-        bytes[from..to].copy_from_slice(more);
-        Word {
-            bytes,
-            len: to as u8,
-        }
+        let mut bytes = [0; N];
+        let mut end = append(&mut bytes[..], 0, before);
+        end = append(&mut bytes[..], end, &digits[start..]);
+        bytes[N - 1] = append(&mut bytes[..], end, after) as u8;
+        Word { bytes }
     }
 
     /// Puts it from `end` on. Answers where it ends.
     #[inline(always)]
-    fn put(&self, bytes: &mut [u8], end: usize) -> usize
-        requires { end + 23 ≤ length bytes.old }
-        ensures bytes { take result bytes.new ≡ take end bytes.old ++ take self.now.len self.now.bytes }
-        ensures within { (end ≤ result) × (result ≤ end + 23) }
+    pub(crate) fn put(&self, bytes: &mut [u8], end: usize) -> usize
+        requires { end + N ≤ length bytes.old }
+        ensures bytes { take result bytes.new ≡ take end bytes.old ++ word_in self.now.bytes }
+        ensures within { (end ≤ result) × (result ≤ end + N) }
     {
         let copied = self.bytes;
-        bytes[end..end + 23].copy_from_slice(&copied);
-        end + usize::from(self.len)
+        bytes[end..end + N].copy_from_slice(&copied);
+        end + usize::from(self.bytes[N - 1])
     }
+}
+
+/// Puts these bytes from `end` on. Answers where they end.
+#[inline(always)]
+fn append(bytes: &mut [u8], end: usize, more: &[u8]) -> usize
+    requires { end + length more.now ≤ length bytes.old }
+    ensures end { result ≡ end + length more.now }
+    ensures bytes { take result bytes.new ≡ take end bytes.old ++ more.now }
+{
+    let to = end + more.len();
+    bytes[end..to].copy_from_slice(more);
+    to
 }
 
 /// Puts the word of this number, if there is one, from `end` on. Answers where it ends.
 #[inline(always)]
-pub(crate) fn put(words: &[Word], number: u32, bytes: &mut [u8], end: usize) -> usize
-    requires { end + 23 ≤ length bytes.old }
-    ensures bytes { take result bytes.new ≡ take end bytes.old ++ slice_index_or (map (λ word. take word.len word.bytes) words.now) number [] }
-    ensures within { (end ≤ result) × (result ≤ end + 23) }
+pub(crate) fn put<const N: usize>(
+    words: &[Word<N>],
+    number: u32,
+    bytes: &mut [u8],
+    end: usize,
+) -> usize
+    requires { end + N ≤ length bytes.old }
+    ensures bytes { take result bytes.new ≡ take end bytes.old ++ slice_index_or (map (λ word. word_in word.bytes) words.now) number [] }
+    ensures within { (end ≤ result) × (result ≤ end + N) }
 {
     match words.get(number as usize) {
         Some(word) => word.put(bytes, end),

@@ -10,8 +10,8 @@ use std::alloc::Global;
 /// The words of the committed transactions and the written keys, by their numbers.
 #[derive(Drop)]
 pub(crate) struct Spelled {
-    pub(crate) txns: Vec<Word>,
-    pub(crate) keys: Vec<Word>,
+    pub(crate) txns: Vec<Word<16>>,
+    pub(crate) keys: Vec<Word<24>>,
 }
 
 impl Spelled {

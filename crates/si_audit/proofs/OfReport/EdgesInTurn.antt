@@ -1,5 +1,5 @@
 -- The lines of all edges are those of each source in turn, and those of a source are what its rows tell.
-use Rattle.std.proofs.Common.{◌≡◌, ℕ, ◌+◌, ◌<◌, ◌≤◌, ◌^◌, List, [], ◌∷◌, ◌++◌, drop, flat_map, get_or, length, map, codes, ap, sym, subst, ◌∙◌, append_assoc, inl, inr, Bool, true, zero, suc, refl, arith}
+use Rattle.std.proofs.Common.{◌≡◌, ℕ, ◌+◌, ◌<◌, ◌≤◌, ◌^◌, List, [], ◌∷◌, ◌++◌, drop, flat_map, get_or, length, map, codes, ap, sym, subst, ◌∙◌, append-nil, append_assoc, inl, inr, Bool, true, zero, suc, refl, arith}
 use Rattle.std.specs.Prelude.{Contains, slice_index, slice_index_or, ⊤, filter}
 use Rattle.std.proofs.lemmas.Fmt.{length-decimal-le}
 use Rattle.std.proofs.lemmas.List.{at_drop_more, get_or-map, get_or_default}
@@ -42,7 +42,7 @@ parts_of_line : (a s k b c e : List ℕ) → a ++ s ++ k ++ (s ++ b) ++ (s ++ c 
 parts_of_line a s k b c e = simp append_assoc
 
 -- the word of a number that is spelled
-pub spelled_at : (word : ℕ → List ℕ) (words : List Word) (names : List ℕ) (i : ℕ) → map text_of words ≡ map word names → i < length names → word_at words i ≡ word (slice_index names i)
+pub spelled_at : {n : ℕ} (word : ℕ → List ℕ) (words : List (Word n)) (names : List ℕ) (i : ℕ) → map text_of words ≡ map word names → i < length names → word_at words i ≡ word (slice_index names i)
 spelled_at word words names i same below = ap (λ (texts : List (List ℕ)). slice_index_or texts i []) same ∙ get_or-map word names i 0 [] below
 
 -- a number below a power of ten has so many digits at most
@@ -81,27 +81,33 @@ text_from h s spelled txns are i rows from bytes (edges, between, is) =
     rows_are_lines h s txns keys are keys_are (txns_same ∙ ap (map txn_word) one) keys_same i rows from
     ∙ ap (flat_map edge_line) (one_list_by _ _ (map (edge_of txns keys i) rows) edges (from.edges txns keys are keys_are) between) ∙ sym is
 
--- the first words of each kind
-pub heads_are : (head a b d : Word) (t : ℕ) → text_of head ≡ codes "edge " ++ numeral t ++ codes " " → text_of a ≡ text_of head ++ codes "ww" → text_of b ≡ text_of head ++ codes "wr" → text_of d ≡ text_of head ++ codes "rw"
-    → (kind : Kind) → word_at (a ∷ b ∷ d ∷ []) (kind_number kind) ≡ edge_head t kind
-heads_are head a b d t is ww wr rw Ww = ww ∙ ap (λ (l : List ℕ). l ++ codes "ww") is
-heads_are head a b d t is ww wr rw Wr = wr ∙ ap (λ (l : List ℕ). l ++ codes "wr") is
-heads_are head a b d t is ww wr rw Rw = rw ∙ ap (λ (l : List ℕ). l ++ codes "rw") is
+-- the word of each kind, behind the first ones
+pub kinds_are : {n : ℕ} (a b d : Word n) → text_of a ≡ codes " ww" → text_of b ≡ codes " wr" → text_of d ≡ codes " rw" → (kind : Kind) → word_at (a ∷ b ∷ d ∷ []) (kind_number kind) ≡ codes " " ++ kind_word kind
+kinds_are a b d ww wr rw Ww = ww
+kinds_are a b d ww wr rw Wr = wr
+kinds_are a b d ww wr rw Rw = rw
+
+head_joins : (old a n s k : List ℕ) → old ++ (a ++ n ++ []) ++ (s ++ k) ≡ old ++ (a ++ n ++ s ++ k)
+head_joins old a n s k = simp (append_assoc, append-nil)
+
+pub head_put : (t : ℕ) (kind : Kind) (head word now zeroth first : List ℕ) → head ≡ codes "edge " ++ numeral t ++ [] → word ≡ codes " " ++ kind_word kind → zeroth ≡ now ++ head → first ≡ zeroth ++ word → first ≡ now ++ edge_head t kind
+head_put t kind head word now zeroth first is kind_is at_head at_kind = at_kind ∙ (λ i. (at_head ∙ ap (λ (l : List ℕ). now ++ l) is) i ++ kind_is i) ∙ head_joins now (codes "edge ") (numeral t) (codes " ") (kind_word kind)
 
 pub line_put : (old piece a b c : List ℕ) → old ++ piece ++ a ++ b ++ c ≡ old ++ (piece ++ (a ++ b ++ c))
 line_put old piece a b c = simp append_assoc
 
 -- one more line is put
-pub row_put : (s : Spelled) (heads : List Word) (t : ℕ) → ((kind : Kind) → word_at heads (kind_number kind) ≡ edge_head t kind) → (rows : List EdgeTo) (r : ℕ) (d : EdgeTo) → r < length rows
+pub row_put : (s : Spelled) (t : ℕ) (rows : List EdgeTo) (r : ℕ) (d : EdgeTo) → r < length rows
     → (old piece whole now first second third : List ℕ) → now ≡ old ++ piece → whole ≡ piece ++ flat_map (row_line s t) (drop r rows)
-    → first ≡ now ++ word_at heads (kind_number (get_or rows r d).kind) → second ≡ first ++ word_at s.txns.items (get_or rows r d).target → third ≡ second ++ word_at s.keys.items (get_or rows r d).key
+    → first ≡ now ++ edge_head t (get_or rows r d).kind → second ≡ first ++ word_at s.txns.items (get_or rows r d).target → third ≡ second ++ word_at s.keys.items (get_or rows r d).key
     → (more : List ℕ) × (third ≡ old ++ more) × (whole ≡ more ++ flat_map (row_line s t) (drop (r + 1) rows))
-row_put s heads t head rows r d inside old piece whole now first second third so_far rest at_head at_txn at_key =
+row_put s t rows r d inside old piece whole now first second third so_far rest at_head at_txn at_key =
     let row = get_or rows r d in
+    let head = edge_head t row.kind in
     let txn = word_at s.txns.items row.target in
     let key = word_at s.keys.items row.key in (
       piece ++ row_line s t row,
-      at_key ∙ ap (λ (l : List ℕ). l ++ key) (at_txn ∙ ap (λ (l : List ℕ). l ++ txn) (at_head ∙ (λ i. so_far i ++ head row.kind i))) ∙ line_put old piece (edge_head t row.kind) txn key,
+      at_key ∙ ap (λ (l : List ℕ). l ++ key) (at_txn ∙ ap (λ (l : List ℕ). l ++ txn) (at_head ∙ ap (λ (l : List ℕ). l ++ head) so_far)) ∙ line_put old piece head txn key,
       rest ∙ ap (λ (l : List ℕ). piece ++ l) (at_drop_more (flat_map (row_line s t)) rows r d inside) ∙ sym (append_assoc piece (row_line s t row) (flat_map (row_line s t) (drop (r + 1) rows))),
     )
 

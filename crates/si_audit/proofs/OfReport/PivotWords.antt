@@ -27,7 +27,7 @@ end_words [] = codes "\n"
 end_words (n ∷ rows) = []
 
 -- the words of a line by their numbers
-module _ (t : ℕ) (a b d e : Word) (in_is : text_of a ≡ codes "pivot " ++ numeral t ++ codes " in") (out_is : text_of b ≡ codes " out") (first_is : text_of d ≡ codes " first") (end_is : text_of e ≡ codes "\n") where
+module _ {n : ℕ} (t : ℕ) (a b d e : Word n) (in_is : text_of a ≡ codes "pivot " ++ numeral t ++ codes " in") (out_is : text_of b ≡ codes " out") (first_is : text_of d ≡ codes " first") (end_is : text_of e ≡ codes "\n") where
   begun : (x : Bool) (role : Role) → word_at (a ∷ b ∷ d ∷ e ∷ []) (cond x (role_number role) 4) ≡ cond x (role_words t role) []
   begun true In = in_is
   begun true Out = out_is
@@ -66,14 +66,14 @@ lead_other before role other = by_test (role_number before == role_number role) 
 parted_line : (p a b e r : List ℕ) → p ++ (a ++ b ++ (e ++ r)) ≡ (p ++ (a ++ b ++ e)) ++ r
 parted_line p a b e r = simp append_assoc
 
-module _ (t : ℕ) (words : List Word) where
+module _ {k : ℕ} (t : ℕ) (words : List (Word k)) where
   -- the end of the line, if no rows are left
   line_behind : (before : Option Role) (rows : List Neighbour) → line_from t words before rows ≡ end_words rows ++ rest_of t words before rows
   line_behind before [] = sym (append-nil (codes "\n"))
   line_behind before (n ∷ rows) = refl
 
   -- one more row is put
-  pub pivot_row_put : (leads : List Word) → ((before : Option Role) (role : Role) → word_at leads (lead_number before role) ≡ lead_words t before role) → ((rows : List Neighbour) → word_at leads (end_number rows) ≡ end_words rows)
+  pub pivot_row_put : {n : ℕ} (leads : List (Word n)) → ((before : Option Role) (role : Role) → word_at leads (lead_number before role) ≡ lead_words t before role) → ((rows : List Neighbour) → word_at leads (end_number rows) ≡ end_words rows)
       → (rows : List Neighbour) (r : ℕ) (d : Neighbour) → r < length rows
       → (old piece whole now first second third : List ℕ) → now ≡ old ++ piece → whole ≡ piece ++ rest_of t words (role_before rows r) (drop r rows)
       → first ≡ now ++ word_at leads (lead_number (role_before rows r) (get_or rows r d).role) → second ≡ first ++ word_at words (get_or rows r d).txn → third ≡ second ++ word_at leads (end_number (drop (r + 1) rows))
@@ -107,11 +107,11 @@ regroup : (a b c d : List ℕ) → (a ++ b) ++ (c ++ d) ≡ (a ++ (b ++ c)) ++ d
 regroup a b c d = simp append_assoc
 
 -- the names in rows
-abbrev pub names_in : List Word → List Neighbour → List ℕ
+abbrev pub names_in : {n : ℕ} → List (Word n) → List Neighbour → List ℕ
 names_in words rows = flat_map (λ n. word_at words n.txn) rows
 
 -- the firsts of a pivot, if there are any, and the end of its line: by rows, and by names
-abbrev pub last_words : List Word → List Neighbour → List ℕ
+abbrev pub last_words : {n : ℕ} → List (Word n) → List Neighbour → List ℕ
 last_words words [] = codes "\n"
 last_words words (n ∷ rows) = codes " first" ++ names_in words (n ∷ rows) ++ codes "\n"
 
@@ -119,7 +119,7 @@ abbrev pub line_end : List ℕ → List ℕ
 line_end [] = codes "\n"
 line_end (u ∷ us) = codes " first" ++ flat_map txn_word (u ∷ us) ++ codes "\n"
 
-module _ (t : ℕ) (words : List Word) where
+module _ {k : ℕ} (t : ℕ) (words : List (Word k)) where
   -- rows of one role behind one of it
   run : (role : Role) (xs rest : List Neighbour) → HaveRole role xs → line_from t words (Some role) (xs ++ rest) ≡ names_in words xs ++ line_from t words (Some role) rest
   run role [] rest all = refl
@@ -156,7 +156,7 @@ module _ (t : ℕ) (words : List Word) where
       ∙ ap (λ (l : List ℕ). role_words t In ++ names_in words (x ∷ xs) ++ l)
       (first_run (Some In) Out y ys firsts refl b ∙ ap (λ (l : List ℕ). codes " out" ++ names_in words (y ∷ ys) ++ l) (last_run firsts c))
 
-module _ (words : List Word) (txns : List ℕ) (same : map text_of words ≡ map txn_word txns) where
+module _ {k : ℕ} (words : List (Word k)) (txns : List ℕ) (same : map text_of words ≡ map txn_word txns) where
   abbrev pub AreNumbers : List Neighbour → Type 0
   AreNumbers rows = (n : Neighbour) → Contains rows n → n.txn < length txns
 

@@ -17,12 +17,12 @@ pub putting-preserved : goal.putting-preserved
 putting-preserved c =
     let e = c.args.self.now in
     let inv = c.putting.invariant in
-    let words : List Word = c.of.result ∷ c.from_bytes.result ∷ c.from_bytes-2.result ∷ c.from_bytes-3.result ∷ [] in
+    let words : List (Word 24) = c.of.result ∷ c.new.result ∷ c.new-2.result ∷ c.new-3.result ∷ [] in
     let t = slice_index e.txns.now c.args.number in
     let pivot : c.from-pivot.result ≡ t = search rules in
-    let begun = lead_is c.from-pivot.result c.of.result c.from_bytes.result c.from_bytes-2.result c.from_bytes-3.result c.of.ensures.bytes c.from_bytes.ensures.bytes c.from_bytes-2.ensures.bytes c.from_bytes-3.ensures.bytes in
+    let begun = lead_is c.from-pivot.result c.of.result c.new.result c.new-2.result c.new-3.result c.of.ensures c.new.ensures c.new-2.ensures c.new-3.ensures in
     let head = subst (λ u. (before : Option Role) (role : Role) → word_at words (lead_number before role) ≡ lead_words u before role) pivot begun in
-    let tail = end_at c.from-pivot.result c.of.result c.from_bytes.result c.from_bytes-2.result c.from_bytes-3.result c.of.ensures.bytes c.from_bytes.ensures.bytes c.from_bytes-2.ensures.bytes c.from_bytes-3.ensures.bytes in
+    let tail = end_at c.from-pivot.result c.of.result c.new.result c.new-2.result c.new-3.result c.of.ensures c.new.ensures c.new-2.ensures c.new-3.ensures in
     let none : Neighbour = record { role = In; txn = 0 } in
     let row : Neighbour = get_or c.args.rows.now c.putting.row none in
     let inside : c.putting.row < length c.args.rows.now = search rules in
@@ -35,7 +35,7 @@ putting-preserved c =
     let from = inv.from in
     let (piece, bytes, lines) = pivot_row_put t e.spelled.now.txns.items words head tail c.args.rows.now c.putting.row none inside _ inv.piece _ _ _ _ _ inv.bytes inv.lines
     (c.put-end.ensures.bytes ∙ ap (λ n. take c.putting.end c.putting.bytes ++ word_at words n) (c.lead.ensures none))
-    (c.put-end-in-putting.ensures.bytes ∙ ap (λ (words : List Word). take c.put-end.result c.put-end.new.bytes ++ word_at words row.txn) c.deref.ensures.value)
+    (c.put-end-in-putting.ensures.bytes ∙ ap (λ (words : List (Word 16)). take c.put-end.result c.put-end.new.bytes ++ word_at words row.txn) c.deref.ensures.value)
     (c.put-end-in-putting-2.ensures.bytes ∙ ap (λ n. take c.put-end-in-putting.result c.put-end-in-putting.new.bytes ++ word_at words n) c.tail.ensures) in record {
       piece = piece;
       bytes = bytes;

@@ -4,8 +4,8 @@ use Rattle.si_audit.proofs.spelled.Spelled.of.Goals as goal
 
 pub of-requires : goal.of-requires
 of-requires c =
-    let fits : c.from.result < 2 ^ 64 = search rules in
-    omega (arith, numeral_short 20 c.from.result (omega arith) (omega arith) fits)
+    let small : c.from.result < 2 ^ 32 = search rules in
+    omega (arith, numeral_short 10 c.from.result (omega arith) (omega arith) (omega arith))
 
 pub of-requires-in-loop-key : goal.of-requires-in-loop-key
 of-requires-in-loop-key c =
