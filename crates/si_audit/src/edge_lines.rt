@@ -1,5 +1,5 @@
 //! The lines of all edges, source by source.
-ghost use Rattle.std.specs.Prelude.{◌≡◌, ◌+◌, ◌++◌, ◌≤◌, ℕ, List, ⊤, IfOk, length, slice_index};
+ghost use Rattle.std.specs.Prelude.{◌≡◌, ◌+◌, ◌++◌, ◌≤◌, ℕ, List, ⊤, IfOk, length};
 ghost use Rattle.std.proofs.Common.{ap, flat_map, le_refl};
 ghost use Rattle.std.proofs.lemmas.List.{drop_all};
 ghost use Rattle.sia_parts.specs.EdgeRows.{row_bound};
@@ -10,7 +10,7 @@ use crate::answer::Found;
 use crate::sheet::{ROOM, Sheet, Word, put};
 use crate::spelled::Spelled;
 use crate::told::Told;
-use sia_events::{NoMemory, TxnId};
+use sia_events::NoMemory;
 use sia_index::ordering::Sorter;
 use sia_parts::{EdgeTo, Edges};
 use std::alloc::Global;
@@ -20,7 +20,6 @@ use std::alloc::Global;
 pub(crate) struct EdgeLines<'a> {
     edges: Edges<'a>,
     spelled: &'a Spelled,
-    txns: &'a [TxnId],
     count: u32,
 }
 
@@ -37,7 +36,6 @@ impl<'a> EdgeLines<'a> {
         Ok(EdgeLines {
             edges: Edges::of(alloc, index, &found.accesses, None)?,
             spelled: &found.spelled,
-            txns,
             count: txns.len() as u32,
         })
     }
@@ -56,7 +54,7 @@ impl Told for EdgeLines<'_> {
 
     ghost text = { row_text };
 
-    ghost ends = { λ lines number rows. ap (flat_map (row_line lines.spelled.now (slice_index lines.txns.now number)))
+    ghost ends = { λ lines number rows. ap (flat_map (row_line lines.spelled.now number))
         (drop_all (length rows) rows (le_refl (length rows))) };
 
     fn count(&self) -> u32 {
@@ -72,8 +70,7 @@ impl Told for EdgeLines<'_> {
     }
 
     fn put_rows(&self, number: u32, rows: &[EdgeTo], row: usize, sheet: &mut Sheet) -> usize {
-        let source = u64::from(self.txns.get(number as usize).copied().unwrap_or(0));
-        let head = Word::<16>::of(b"edge ", source, b"");
+        let edge = Word::<8>::new(b"edge");
         let kinds: [Word<4>; 3] = [Word::new(b" ww"), Word::new(b" wr"), Word::new(b" rw")];
         let (txns, keys) = (&*self.spelled.txns, &*self.spelled.keys);
         let bytes = &mut *sheet.bytes;
@@ -81,7 +78,8 @@ impl Told for EdgeLines<'_> {
         let mut row = row;
         'putting: while row < rows.len() && end + ROOM <= bytes.len() {
             let to = &rows[row];
-            end = head.put(bytes, end);
+            end = edge.put(bytes, end);
+            end = put(txns, number, bytes, end);
             end = put(&kinds, to.kind as u32, bytes, end);
             end = put(txns, to.target, bytes, end);
             end = put(keys, to.key, bytes, end);

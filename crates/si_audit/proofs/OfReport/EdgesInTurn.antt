@@ -1,5 +1,5 @@
 -- The lines of all edges are those of each source in turn, and those of a source are what its rows tell.
-use Rattle.std.proofs.Common.{◌≡◌, ℕ, ◌+◌, ◌<◌, ◌≤◌, ◌^◌, List, [], ◌∷◌, ◌++◌, drop, flat_map, get_or, length, map, codes, ap, sym, subst, ◌∙◌, append-nil, append_assoc, inl, inr, Bool, true, zero, suc, refl, arith}
+use Rattle.std.proofs.Common.{◌≡◌, ℕ, ◌+◌, ◌<◌, ◌≤◌, ◌^◌, List, [], ◌∷◌, ◌++◌, drop, flat_map, get_or, length, map, codes, ap, sym, subst, ◌∙◌, append_assoc, inl, inr, Bool, true, zero, suc, refl, arith}
 use Rattle.std.specs.Prelude.{Contains, slice_index, slice_index_or, ⊤, filter}
 use Rattle.std.proofs.lemmas.Fmt.{length-decimal-le}
 use Rattle.std.proofs.lemmas.List.{at_drop_more, get_or-map, get_or_default}
@@ -22,7 +22,7 @@ use Rattle.sia_parts.specs.Entries.{kind_number, edge_rank}
 use Rattle.sia_parts.proofs.Auditing.Committing.{committed_number}
 use Rattle.si_audit.specs.declared.sheet.Word.{Word}
 use Rattle.si_audit.specs.declared.spelled.Spelled.{Spelled}
-use Rattle.si_audit.specs.EdgeLines.{AreLinesFrom, edge_head, row_line}
+use Rattle.si_audit.specs.EdgeLines.{AreLinesFrom, row_line}
 use Rattle.si_audit.specs.Lines.{edge_line, kind_word}
 use Rattle.si_audit.specs.Sheet.{text_of, word_at}
 use Rattle.si_audit.specs.Spelled.{AreSpelled, key_word, txn_word}
@@ -38,7 +38,7 @@ use Rattle.sia_parts.proofs.EdgeRows.EdgeLists.{edges_joined, edges_none}
 use Rattle.si_audit.specs.Giving.{IsTextOf}
 use Rattle.si_audit.proofs.OfLaws.VerdictExists.{kind_joins}
 
-parts_of_line : (a s k b c e : List ℕ) → a ++ s ++ k ++ (s ++ b) ++ (s ++ c ++ e) ≡ a ++ (s ++ (k ++ (s ++ (b ++ (s ++ c))))) ++ e
+parts_of_line : (a s k b c e : List ℕ) → a ++ (s ++ k) ++ (s ++ b) ++ (s ++ c ++ e) ≡ a ++ (s ++ (k ++ (s ++ (b ++ (s ++ c))))) ++ e
 parts_of_line a s k b c e = simp append_assoc
 
 -- the word of a number that is spelled
@@ -50,18 +50,15 @@ pub numeral_short : (k n : ℕ) → 0 < k → n < 10 ^ k → n < 2 ^ 64 → leng
 numeral_short k n some few fits = subst (λ (ds : List ℕ). length ds ≤ k) (sym (numeral_decimal n fits)) (length-decimal-le k n some few fits)
 
 module _ (h : List Event) (s : Spelled) (txns keys : List ℕ) (are : ListsAscending (IsCommitted h) txns) (keys_are : AreWrittenKeys h keys)
-    (txns_same : map text_of s.txns.items ≡ map txn_word txns) (keys_same : map text_of s.keys.items ≡ map key_word keys) (i : ℕ) where
-  row_is_line : (row : EdgeTo) → row.target < length txns → row.key < length keys → row_line s (slice_index txns i) row ≡ edge_line (edge_of txns keys i row)
+    (txns_same : map text_of s.txns.items ≡ map txn_word txns) (keys_same : map text_of s.keys.items ≡ map key_word keys) (i : ℕ) (inside : i < length txns) where
+  row_is_line : (row : EdgeTo) → row.target < length txns → row.key < length keys → row_line s i row ≡ edge_line (edge_of txns keys i row)
   row_is_line row target key =
-      (λ j. row_head ++ spelled_at txn_word s.txns.items txns row.target txns_same target j ++ spelled_at key_word s.keys.items keys row.key keys_same key j)
+      (λ j. codes "edge" ++ spelled_at txn_word s.txns.items txns i txns_same inside j ++ (codes " " ++ kind_word row.kind) ++ spelled_at txn_word s.txns.items txns row.target txns_same target j ++ spelled_at key_word s.keys.items keys row.key keys_same key j)
       ∙ ap (λ (l : List ℕ). codes "edge " ++ l) (parts_of_line (numeral (slice_index txns i)) (codes " ") (kind_word row.kind) (numeral (slice_index txns row.target)) (numeral (slice_index keys row.key)) (10 ∷ []))
-    where
-      row_head : List ℕ
-      row_head = codes "edge " ++ numeral (slice_index txns i) ++ codes " " ++ kind_word row.kind
 
-  rows_are_lines : (rows : List EdgeTo) → AreEdgesFrom h (λ _. ⊤) i rows → flat_map (row_line s (slice_index txns i)) rows ≡ flat_map edge_line (map (edge_of txns keys i) rows)
+  rows_are_lines : (rows : List EdgeTo) → AreEdgesFrom h (λ _. ⊤) i rows → flat_map (row_line s i) rows ≡ flat_map edge_line (map (edge_of txns keys i) rows)
   rows_are_lines rows from =
-      let words : EdgeTo → List ℕ = row_line s (slice_index txns i) in
+      let words : EdgeTo → List ℕ = row_line s i in
       let line_at : EdgeTo → List ℕ = λ row. edge_line (edge_of txns keys i row) in
       sym (flat_map-map (λ (l : List ℕ). l) words rows)
       ∙ ap (flat_map (λ (l : List ℕ). l)) (map_same words line_at (Contains rows) rows
@@ -72,43 +69,43 @@ module _ (h : List Event) (s : Spelled) (txns keys : List ℕ) (are : ListsAscen
       ∙ flat_map-map (λ (l : List ℕ). l) line_at rows ∙ sym (flat_map-map edge_line (edge_of txns keys i) rows)
 
 -- the text of a source's rows
-pub text_from : (h : List Event) (s : Spelled) → AreSpelled h s → (txns : List ℕ) → ListsAscending (IsCommitted h) txns → (i : ℕ) (rows : List EdgeTo) → AreEdgesFrom h (λ _. ⊤) i rows
-    → (bytes : List ℕ) → AreLinesFrom h i bytes → flat_map (row_line s (slice_index txns i)) rows ≡ bytes
-text_from h s spelled txns are i rows from bytes (edges, between, is) =
+pub text_from : (h : List Event) (s : Spelled) → AreSpelled h s → (txns : List ℕ) → ListsAscending (IsCommitted h) txns → (i : ℕ) → i < length txns → (rows : List EdgeTo) → AreEdgesFrom h (λ _. ⊤) i rows
+    → (bytes : List ℕ) → AreLinesFrom h i bytes → flat_map (row_line s i) rows ≡ bytes
+text_from h s spelled txns are i inside rows from bytes (edges, between, is) =
     let (names, names_are, txns_same) = spelled.txns in
     let (keys, keys_are, keys_same) = spelled.keys in
     let one : names ≡ txns = one_list_by _ _ names txns names_are are in
-    rows_are_lines h s txns keys are keys_are (txns_same ∙ ap (map txn_word) one) keys_same i rows from
+    rows_are_lines h s txns keys are keys_are (txns_same ∙ ap (map txn_word) one) keys_same i inside rows from
     ∙ ap (flat_map edge_line) (one_list_by _ _ (map (edge_of txns keys i) rows) edges (from.edges txns keys are keys_are) between) ∙ sym is
 
--- the word of each kind, behind the first ones
+-- the word of each kind
 pub kinds_are : {n : ℕ} (a b d : Word n) → text_of a ≡ codes " ww" → text_of b ≡ codes " wr" → text_of d ≡ codes " rw" → (kind : Kind) → word_at (a ∷ b ∷ d ∷ []) (kind_number kind) ≡ codes " " ++ kind_word kind
 kinds_are a b d ww wr rw Ww = ww
 kinds_are a b d ww wr rw Wr = wr
 kinds_are a b d ww wr rw Rw = rw
 
-head_joins : (old a n s k : List ℕ) → old ++ (a ++ n ++ []) ++ (s ++ k) ≡ old ++ (a ++ n ++ s ++ k)
-head_joins old a n s k = simp (append_assoc, append-nil)
-
-pub head_put : (t : ℕ) (kind : Kind) (head word now zeroth first : List ℕ) → head ≡ codes "edge " ++ numeral t ++ [] → word ≡ codes " " ++ kind_word kind → zeroth ≡ now ++ head → first ≡ zeroth ++ word → first ≡ now ++ edge_head t kind
-head_put t kind head word now zeroth first is kind_is at_head at_kind = at_kind ∙ (λ i. (at_head ∙ ap (λ (l : List ℕ). now ++ l) is) i ++ kind_is i) ∙ head_joins now (codes "edge ") (numeral t) (codes " ") (kind_word kind)
-
 pub line_put : (old piece a b c : List ℕ) → old ++ piece ++ a ++ b ++ c ≡ old ++ (piece ++ (a ++ b ++ c))
 line_put old piece a b c = simp append_assoc
 
+words_put : (old piece a b c d e : List ℕ) → old ++ piece ++ a ++ b ++ c ++ d ++ e ≡ old ++ (piece ++ (a ++ b ++ c ++ d ++ e))
+words_put old piece a b c d e = simp append_assoc
+
 -- one more line is put
-pub row_put : (s : Spelled) (t : ℕ) (rows : List EdgeTo) (r : ℕ) (d : EdgeTo) → r < length rows
-    → (old piece whole now first second third : List ℕ) → now ≡ old ++ piece → whole ≡ piece ++ flat_map (row_line s t) (drop r rows)
-    → first ≡ now ++ edge_head t (get_or rows r d).kind → second ≡ first ++ word_at s.txns.items (get_or rows r d).target → third ≡ second ++ word_at s.keys.items (get_or rows r d).key
-    → (more : List ℕ) × (third ≡ old ++ more) × (whole ≡ more ++ flat_map (row_line s t) (drop (r + 1) rows))
-row_put s t rows r d inside old piece whole now first second third so_far rest at_head at_txn at_key =
+pub row_put : (s : Spelled) (i : ℕ) (rows : List EdgeTo) (r : ℕ) (d : EdgeTo) → r < length rows
+    → (old piece whole now first second third fourth fifth : List ℕ) → now ≡ old ++ piece → whole ≡ piece ++ flat_map (row_line s i) (drop r rows)
+    → first ≡ now ++ codes "edge" → second ≡ first ++ word_at s.txns.items i → third ≡ second ++ (codes " " ++ kind_word (get_or rows r d).kind)
+    → fourth ≡ third ++ word_at s.txns.items (get_or rows r d).target → fifth ≡ fourth ++ word_at s.keys.items (get_or rows r d).key
+    → (more : List ℕ) × (fifth ≡ old ++ more) × (whole ≡ more ++ flat_map (row_line s i) (drop (r + 1) rows))
+row_put s i rows r d inside old piece whole now first second third fourth fifth so_far rest at_edge at_source at_kind at_txn at_key =
     let row = get_or rows r d in
-    let head = edge_head t row.kind in
+    let source = word_at s.txns.items i in
+    let kind = codes " " ++ kind_word row.kind in
     let txn = word_at s.txns.items row.target in
     let key = word_at s.keys.items row.key in (
-      piece ++ row_line s t row,
-      at_key ∙ ap (λ (l : List ℕ). l ++ key) (at_txn ∙ ap (λ (l : List ℕ). l ++ txn) (at_head ∙ ap (λ (l : List ℕ). l ++ head) so_far)) ∙ line_put old piece head txn key,
-      rest ∙ ap (λ (l : List ℕ). piece ++ l) (at_drop_more (flat_map (row_line s t)) rows r d inside) ∙ sym (append_assoc piece (row_line s t row) (flat_map (row_line s t) (drop (r + 1) rows))),
+      piece ++ row_line s i row,
+      at_key ∙ ap (λ (l : List ℕ). l ++ key) (at_txn ∙ ap (λ (l : List ℕ). l ++ txn) (at_kind ∙ ap (λ (l : List ℕ). l ++ kind) (at_source ∙ ap (λ (l : List ℕ). l ++ source) (at_edge ∙ ap (λ (l : List ℕ). l ++ codes "edge") so_far))))
+          ∙ words_put old piece (codes "edge") source kind txn key,
+      rest ∙ ap (λ (l : List ℕ). piece ++ l) (at_drop_more (flat_map (row_line s i)) rows r d inside) ∙ sym (append_assoc piece (row_line s i row) (flat_map (row_line s i) (drop (r + 1) rows))),
     )
 
 -- those of a list that pass a test
