@@ -1,5 +1,5 @@
 -- What the tables of an index hold of its history.
-use Rattle.std.specs.Prelude.{◌≡◌, ◌<◌, ◌≤◌, ◌+◌, ℕ, All, Some, List, [], length, slice_get, slice_index, slice_index_or}
+use Rattle.std.specs.Prelude.{◌≡◌, ◌<◌, ◌≤◌, ℕ, All, Some, List, [], length, slice_get, slice_index, slice_index_or}
 use Rattle.sia_events.specs.declared.event.Event.{Event}
 use Rattle.sia_events.specs.declared.log.TxnRow.{TxnRow}
 use Rattle.sia_events.specs.Finding.{Finds}
@@ -49,9 +49,9 @@ pub record AreTxns (h : List Event) (t : Txns) : Type 0 where
 abbrev pub AreKeys : List Event → Keys → Type 0
 AreKeys h k = AreNumbers (IsWritten h) (keys_of h) k.keys.items k.numbers.items
 
--- the positions of the versions that each of so many transactions made, by its number, each ascending, and of those that nobody made
+-- the positions of the versions that each of so many transactions made, by its number, each ascending
 abbrev pub AreMadeBy : List ℕ → ℕ → List (List ℕ) → Type 0
-AreMadeBy makers txns lists = (length lists ≡ txns + 1) × ((t : ℕ) → t < txns → ListsAscending (λ q. slice_get makers q ≡ Some t) (slice_index_or lists t []))
+AreMadeBy makers txns lists = (length lists ≡ txns) × ((t : ℕ) → t < txns → ListsAscending (λ q. slice_get makers q ≡ Some t) (slice_index_or lists t []))
 
 -- the tables by position, by key, by write and by transaction
 pub record AreVersionTables (h : List Event) (committed keys : List ℕ) (v : Versions) : Type 0 where

@@ -1,5 +1,5 @@
 -- What the rows of all versions in order say of one another.
-use Rattle.std.proofs.Common.{◌≡◌, ◌≢◌, ◌⊎◌, inl, inr, ℕ, ◌+◌, ◌-◌, ◌<◌, ◌≤◌, List, [], ◌∷◌, length, map, sym, subst, ◌∙◌, ap, arith, slice_get}
+use Rattle.std.proofs.Common.{◌≡◌, ◌≢◌, ◌⊎◌, inl, inr, ℕ, ◌-◌, ◌<◌, ◌≤◌, List, [], ◌∷◌, length, map, sym, subst, ◌∙◌, ap, arith, slice_get}
 use Rattle.std.specs.Prelude.{All, AllPairs, slice_index, slice_index_or}
 use Rattle.std.proofs.lemmas.List.{get_or-map, length-map}
 use Rattle.std.proofs.lemmas.Option.{slice_get_within}
@@ -26,13 +26,6 @@ module _ (h : List Event) (wf : IsWellFormed h) (committed keys : List ℕ) (key
       of_row : (row : VersionRow) → IsVersionRow h committed keys row → row.write ≤ length (writes_of h)
       of_row row (inside, inl none) = let e = none.0 in omega arith
       of_row row (inside, inr made) = let some = made.0 in let b = slice_get_within (writes_of h) (row.write - 1) (slice_index keys row.key, made.1) made.2 in omega arith
-
-  pub makers_within : All (λ row. row.maker < length committed + 1) rows
-  makers_within i d below = of_row (slice_index_or rows i d) (are.right i d below)
-    where
-      of_row : (row : VersionRow) → IsVersionRow h committed keys row → row.maker < length committed + 1
-      of_row row (inside, inl none) = let e = none.2 in omega arith
-      of_row row (inside, inr made) = let b = made.4 in omega arith
 
   -- one stands before another by key, and then by commit
   pub order : (i j : ℕ) (d : VersionRow) → i < j → j < length rows → (slice_index keys (slice_index_or rows i d).key < slice_index keys (slice_index_or rows j d).key)
