@@ -100,7 +100,7 @@ pub(crate) fn cycle_of(
         place = previous[place];
         home = home.min(place);
     }
-    let mut steps = Vec::new(alloc);
+    let mut steps = Vec::with_capacity(alloc, previous.len())?;
     let mut at = home;
     'walk: loop {
         let before = previous[at];

@@ -10,7 +10,7 @@ use Rattle.sia_graph.specs.Orders.{Leads}
 use Rattle.sia_graph.proofs.Cycles.Rounds.{IsPartOfRound, part_more, part_none, round_made}
 use Rattle.sia_graph.proofs.Cycles.PrintedCycle.{fed_by_stuck, least_home, previous_from, round_home, shifted, leads_all, printed, stays_within}
 use Rattle.sia_graph.proofs.Cycles.Walks.{back_more, back_next, ends_round, least_more, stays}
-use Rattle.sia_graph.proofs.cycle.cycle_of.Goals.{After-loop, After-new-steps, After-round, After-unwrap_or-place}
+use Rattle.sia_graph.proofs.cycle.cycle_of.Goals.{After-loop, In_ok-steps, After-round, After-unwrap_or-place}
 use Rattle.sia_graph.proofs.cycle.cycle_of.Goals as goal
 
 -- the first that is left
@@ -65,16 +65,16 @@ round-preserved c =
     )
 
 -- home is a place on the cycle
-home_inside : (c : After-new-steps) → c.round.home < length c.args.previous.now
+home_inside : (c : In_ok-steps) → c.round.home < length c.args.previous.now
 home_inside c = grind (arith, home_is, stays, within)
 
-round_is : (c : After-new-steps) → (period : ℕ) × (0 < period) × (period ≤ length c.args.previous.now) × (back c.args.previous.now period c.round.home ≡ c.round.home)
+round_is : (c : In_ok-steps) → (period : ℕ) × (0 < period) × (period ≤ length c.args.previous.now) × (back c.args.previous.now period c.round.home ≡ c.round.home)
 round_is c =
     let w = turns (goal.at.walk-init c).After-loop in
     let v = home_is (goal.at.walk-init c).After-round in
     (w.0, w.1, w.2, round_home c.args.previous.now c.loop.place w.0 c.round.home w.1 w.3 (v.0.0, v.0.2) (λ n l. v.1 n (let few = w.2 in omega arith)))
 
-least_is : (c : After-new-steps) → (n : ℕ) → c.round.home ≤ back c.args.previous.now n c.round.home
+least_is : (c : In_ok-steps) → (n : ℕ) → c.round.home ≤ back c.args.previous.now n c.round.home
 least_is c =
     let w = turns (goal.at.walk-init c).After-loop in
     let v = home_is (goal.at.walk-init c).After-round in
@@ -95,7 +95,7 @@ previous_are c =
     let inside : c.unwrap_or-place.result < length ids = let a = first.0 in let b = c.requires.long.0 in omega arith in
     previous_from ids E L c.args.previous.now c.unwrap_or-place.result c.requires.least inside first.1 (fed_by_stuck ids (IsMemberIn ids c.args.edges.now) E L r.0 r.2 r.1)
 
-leads_is : (c : After-new-steps) (n : ℕ) → Leads (IsEdgeIn c.args.edges.now) (get_or c.args.ids.now (get_or c.args.previous.now (back c.args.previous.now n c.round.home) 0) 0) (get_or c.args.ids.now (back c.args.previous.now n c.round.home) 0)
+leads_is : (c : In_ok-steps) (n : ℕ) → Leads (IsEdgeIn c.args.edges.now) (get_or c.args.ids.now (get_or c.args.previous.now (back c.args.previous.now n c.round.home) 0) 0) (get_or c.args.ids.now (back c.args.previous.now n c.round.home) 0)
 leads_is c =
     let ids = c.args.ids.now in
     let E = IsEdgeIn c.args.edges.now in
@@ -112,20 +112,20 @@ walk-init c =
       round.0,
       round.2,
       round.3,
-      subst (λ (l : List Step). IsPartOfRound c.args.ids.now (IsEdgeIn c.args.edges.now) c.args.previous.now c.round.home round.0 l c.round.home) (sym c.new-steps.ensures.items)
+      subst (λ (l : List Step). IsPartOfRound c.args.ids.now (IsEdgeIn c.args.edges.now) c.args.previous.now c.round.home round.0 l c.round.home) (sym c.in_ok-steps.ensures.items)
           (part_none c.args.ids.now (IsEdgeIn c.args.edges.now) c.args.previous.now c.round.home round.0 (home_inside c) round.1),
     )
 
 pub least_step-requires-clause-leads : goal.least_step-requires-clause-leads
 least_step-requires-clause-leads c =
     subst (λ i. Leads (IsEdgeIn c.args.edges.now) (get_or c.args.ids.now (get_or c.args.previous.now i 0) 0) (get_or c.args.ids.now i 0)) (sym c.walk.invariant.3.reached)
-    (leads_is (goal.at.least_step-requires-clause-leads c).After-new-steps (length c.walk.steps.items))
+    (leads_is (goal.at.least_step-requires-clause-leads c).In_ok-steps (length c.walk.steps.items))
 
 pub walk-preserved : goal.walk-preserved
 walk-preserved c =
     let previous = c.args.previous.now in
     let part = c.walk.invariant in
-    let before = (goal.at.walk-preserved c).After-new-steps in (
+    let before = (goal.at.walk-preserved c).In_ok-steps in (
       part.0,
       part.1,
       part.2,
@@ -144,7 +144,7 @@ returns c =
     let r = c.requires.stuck in
     let first = start_is (goal.at.returns c).After-unwrap_or-place in
     let inside : start < length ids = let a = first.0 in let b = c.requires.long.0 in omega arith in
-    let before = (goal.at.returns c).After-new-steps in
+    let before = (goal.at.returns c).In_ok-steps in
     let v = (home_is (goal.at.returns c).After-round).0 in
     let home = homed (goal.at.returns c).After-loop c.round.home v.0 v.2 in
     let part = c.walk.invariant in
