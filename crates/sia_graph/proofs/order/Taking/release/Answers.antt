@@ -1,4 +1,4 @@
-use Rattle.std.proofs.Common.{◌≡◌, ◌+◌, ◌-◌, ◌<◌, ◌≤◌, ℕ, [], Bool, true, false, List, Option, Result, Some, length, get_or, set, inl, inr, ◌⊎◌, ap, refl, sym, subst, ◌∙◌, arith}
+use Rattle.std.proofs.Common.{◌≡◌, ◌+◌, ◌-◌, ◌<◌, ◌≤◌, ℕ, [], Bool, List, Option, Result, Some, length, get_or, set, inl, inr, ◌⊎◌, ap, refl, sym, subst, ◌∙◌, arith}
 use Rattle.std.specs.BinaryHeap.{heap_items}
 use Rattle.std.specs.List.Sorted.{IsStrictlyIncreasing}
 use Rattle.std.specs.Result.{OkIff, result_ok}
