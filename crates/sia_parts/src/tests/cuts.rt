@@ -37,8 +37,8 @@ fn parts_and_numbers(rt: HostRuntime) -> Result<(), Fail> {
 
 // 2's range at place 5 is of the keys on both sides of a cut, and so is 3's at place 9. An own write is read at places 3 and 7.
 const DEALT: &[&[u32]] = &[&[1, 3, 5], &[5, 9], &[7, 9], &[]];
-// One part has all events, transaction by transaction, and 2 comes first in the log.
-const WHOLE: &[u32] = &[1, 5, 6, 7, 8, 2, 3, 4, 9];
+// One part has all reads, transaction by transaction, and 2 comes first in the log.
+const WHOLE: &[u32] = &[1, 5, 7, 3, 9];
 
 #[test]
 fn reads_of_parts(rt: HostRuntime) -> Result<(), Fail> {
