@@ -1,4 +1,5 @@
 pub mod Distinct
+pub mod RowsRead
 pub mod Finders
 pub mod Lived
 pub mod Logs

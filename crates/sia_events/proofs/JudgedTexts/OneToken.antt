@@ -1,16 +1,13 @@
 -- What a token is judged to, by what it spells and by the first reason.
-use Rattle.std.proofs.Common.{◌≡◌, ◌≢◌, ℕ, ◌==◌, false, List, length, Option, Ok, refl, arith}
-use Rattle.std.proofs.lemmas.Bool.Decides.{nat_tests}
+use Rattle.std.proofs.Common.{◌≡◌, ◌≢◌, ℕ, List, length, Option, Ok, refl}
 use Rattle.sia_events.specs.Limits.{Limits}
 use Rattle.sia_events.specs.declared.event.Event.{Event}
 use Rattle.sia_events.specs.declared.fault.Reason.{Reason}
 use Rattle.sia_events.specs.Parsing.{event_at}
 use Rattle.sia_events.specs.Known.{fault_of}
 use Rattle.sia_events.specs.Judging.{judged, unless}
-
-not_full : (n most : ℕ) → n ≢ most → (n == most) ≡ false
-not_full n most other = grind (arith, nat_tests)
+use Rattle.sia_events.proofs.LogRows.Lived.{other_false}
 
 pub judged_read : (limits : Limits) (events : List Event) (token : List ℕ) (e : Event) (fault : Option Reason) → length events ≢ limits.events → event_at token ≡ Ok e → fault ≡ fault_of events (length events) e → judged limits events token ≡ unless fault e
 unfolding judged
-judged_read limits events token e fault few read is = rw (not_full (length events) limits.events few, read, is) refl
+judged_read limits events token e fault few read is = rw (other_false (length events) limits.events few, read, is) refl

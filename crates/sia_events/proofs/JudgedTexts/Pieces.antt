@@ -23,9 +23,8 @@ one_token (c ∷ cs) some = refl
 
 -- a refused token stops the events at it
 pub halts_first : (limits : Limits) {X : Type 0} (result : Result X Refusal) (events all : List Event) (token : List ℕ) → length token ≢ 0 → IfErr result (λ fault. Fails fault (judged limits events token)) → IfErr result (λ fault. Stays fault events all) → IfErr result (λ fault. Halts limits fault events (as_token token) all)
-halts_first limits (Ok x) events all token some fails kept = tt
-halts_first limits (Err refusals.NoMemory) events all token some fails kept = tt
 halts_first limits (Err (refusals.Bad r)) events all token some fails kept = subst (λ ts. StopsAt limits events ts all r) (sym (one_token token some)) (StopsAt-first limits events all token r kept fails)
+halts_first limits _ events all token some fails kept = tt
 
 -- the event of a token that is taken is judged
 pub taken_first : (limits : Limits) {X : Type 0} (result : Result X Refusal) (events all : List Event) (token : List ℕ) → length token ≢ 0 → OnOk result ((e : Event) × (judged limits events token ≡ Ok e) × (all ≡ events ++ e ∷ [])) → OnOk result (JudgedAll limits events (as_token token) all)

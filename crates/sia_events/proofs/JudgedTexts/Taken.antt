@@ -24,12 +24,10 @@ knows_after d e ev (Err fault) takes = tt
 
 pub refused : (limits : Limits) (d e : Draft) (ev : Event) (token : List ℕ) (r : Result ⊤ Refusal) → length (events_of d.tables) ≢ limits.events → event_at token ≡ Ok ev → Takes d e ev r → IfErr r (λ fault. Fails fault (judged limits (events_of d.tables) token))
 unfolding Takes
-refused limits d e ev token (Ok done) room read takes = tt
-refused limits d e ev token (Err refusals.NoMemory) room read takes = tt
 refused limits d e ev token (Err (refusals.Bad reason)) room read takes = judged_read limits (events_of d.tables) token ev (Some reason) room read (sym takes.0)
+refused limits d e ev token _ room read takes = tt
 
 pub stays : (d e : Draft) (ev : Event) (r : Result ⊤ Refusal) → Takes d e ev r → IfErr r (λ fault. Stays fault (events_of d.tables) (events_of e.tables))
 unfolding Takes
-stays d e ev (Ok done) takes = tt
-stays d e ev (Err refusals.NoMemory) takes = tt
 stays d e ev (Err (refusals.Bad reason)) takes = takes.1
+stays d e ev _ takes = tt

@@ -4,13 +4,13 @@ use Rattle.std.specs.List.{position_or_len}
 use Rattle.std.proofs.lemmas.List.Sums.{split_at_first, passes_at_first}
 use Rattle.sia_events.specs.Text.{is_separator, goes_on, onto_first, with_byte, tokens}
 use Rattle.sia_events.specs.Judging.{as_token, IsSplitAfter}
-use Rattle.sia_events.proofs.Shared.Canonical.{HasNoSeparator}
+use Rattle.sia_events.proofs.Shared.Canonical.{HasNoSeparator, goes_on_unbroken, ends_token, goes_on_token}
 
 -- nothing, or bytes up to a separator
 abbrev pub IsClosed : List ℕ → Type 0
 IsClosed closed = (closed ≡ []) ⊎ ((front : List ℕ) × (c : ℕ) × (closed ≡ front ++ c ∷ []) × (is_separator c ≡ true))
 
-skipped : (c : ℕ) (after : List ℕ) (ts : List (List ℕ)) → is_separator c ≡ true → with_byte c after ts ≡ ts
+pub skipped : (c : ℕ) (after : List ℕ) (ts : List (List ℕ)) → is_separator c ≡ true → with_byte c after ts ≡ ts
 skipped c after ts e = ap (λ b. cond b ts (cond (goes_on after) (onto_first c ts) ((c ∷ []) ∷ ts))) e
 
 goes_on-append : (front : List ℕ) (c : ℕ) (after : List ℕ) → is_separator c ≡ true → goes_on (front ++ c ∷ after) ≡ goes_on (front ++ c ∷ [])
@@ -67,31 +67,22 @@ tokens-append closed after (inr h) =
     ap (λ (bs : List ℕ). tokens (bs ++ after)) e ∙ ap tokens (append_assoc front (c ∷ []) after) ∙ tokens_past front c after h.3
     ∙ ap (λ (bs : List ℕ). tokens bs ++ tokens after) (sym e)
 
-unbroken_goes_on : (d : ℕ) (ds : List ℕ) → is_separator d ≡ false → goes_on (d ∷ ds) ≡ true
-unbroken_goes_on d ds p = ap (λ b. cond b false true) p
-
-stops_at : (c : ℕ) (after : List ℕ) → is_separator c ≡ true → goes_on (c ∷ after) ≡ false
+pub stops_at : (c : ℕ) (after : List ℕ) → is_separator c ≡ true → goes_on (c ∷ after) ≡ false
 stops_at c after p = ap (λ b. cond b false true) p
-
-ends_token : (c : ℕ) (after : List ℕ) (ts : List (List ℕ)) → is_separator c ≡ false → goes_on after ≡ false → with_byte c after ts ≡ (c ∷ []) ∷ ts
-ends_token c after ts p q = ap (λ b. cond b ts (cond (goes_on after) (onto_first c ts) ((c ∷ []) ∷ ts))) p ∙ ap (λ b. cond b (onto_first c ts) ((c ∷ []) ∷ ts)) q
-
-continues_token : (c : ℕ) (after : List ℕ) (ts : List (List ℕ)) → is_separator c ≡ false → goes_on after ≡ true → with_byte c after ts ≡ onto_first c ts
-continues_token c after ts p q = ap (λ b. cond b ts (cond (goes_on after) (onto_first c ts) ((c ∷ []) ∷ ts))) p ∙ ap (λ b. cond b (onto_first c ts) ((c ∷ []) ∷ ts)) q
 
 -- bytes without a separator are one token, or none
 pub tokens_unbroken : (w : List ℕ) → HasNoSeparator w → tokens w ≡ as_token w
 tokens_unbroken [] t = refl
 tokens_unbroken (c ∷ []) t = ends_token c [] [] t.0 refl
 tokens_unbroken (c ∷ d ∷ w) t =
-    continues_token c (d ∷ w) (tokens (d ∷ w)) t.0 (unbroken_goes_on d w t.1.0) ∙ ap (onto_first c) (tokens_unbroken (d ∷ w) t.1)
+    goes_on_token c (d ∷ w) (tokens (d ∷ w)) t.0 (goes_on_unbroken d w t.1.0) ∙ ap (onto_first c) (tokens_unbroken (d ∷ w) t.1)
 
 -- so are they with a separator after them
 pub tokens_ended : (w : List ℕ) (s : ℕ) → HasNoSeparator w → is_separator s ≡ true → tokens (w ++ s ∷ []) ≡ as_token w
 tokens_ended [] s t e = skipped s [] [] e
 tokens_ended (c ∷ []) s t e = ap (with_byte c (s ∷ [])) (skipped s [] [] e) ∙ ends_token c (s ∷ []) [] t.0 (stops_at s [] e)
 tokens_ended (c ∷ d ∷ w) s t e =
-    continues_token c (d ∷ (w ++ s ∷ [])) (tokens (d ∷ (w ++ s ∷ []))) t.0 (unbroken_goes_on d (w ++ s ∷ []) t.1.0)
+    goes_on_token c (d ∷ (w ++ s ∷ [])) (tokens (d ∷ (w ++ s ∷ []))) t.0 (goes_on_unbroken d (w ++ s ∷ []) t.1.0)
     ∙ ap (onto_first c) (tokens_ended (d ∷ w) s t.1 e)
 
 -- a closed text goes on to the next separator

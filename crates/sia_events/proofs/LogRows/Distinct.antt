@@ -1,5 +1,5 @@
 -- Lists in which nothing stands twice, and what one event more makes of the numbers.
-use Rattle.std.proofs.Common.{◌≡◌, ◌⊎◌, inl, inr, ℕ, zero, suc, ◌||◌, Bool, true, false, List, [], ◌∷◌, ◌++◌, length, map, Some, None, refl, sym, ◌∙◌, ap, ap₂, slice_get}
+use Rattle.std.proofs.Common.{◌≡◌, inl, inr, ℕ, zero, suc, ◌||◌, Bool, true, false, List, [], ◌∷◌, ◌++◌, map, Some, None, refl, sym, ◌∙◌, ap, ap₂, slice_get}
 use Rattle.std.specs.Prelude.{◌==◌, ◌&&◌, if◌then◌else◌}
 use Rattle.std.specs.List.{list_any, fold, flat_map}
 use Rattle.std.proofs.Math.Bool.{or-false, or-true}
@@ -8,13 +8,14 @@ use Rattle.std.proofs.lemmas.Grind.{fold-append, flat_map-append}
 use Rattle.std.proofs.lemmas.List.Folds.{list_any-append}
 use Rattle.std.proofs.lemmas.List.{map-append, append-nil}
 use Rattle.sia_events.specs.declared.event.Event.{Event}
-use Rattle.sia_events.specs.declared.event.Event.TheVariants.{Begin, Read, Range, Write, Commit, Abort}
+use Rattle.sia_events.specs.declared.event.Event.TheVariants.{Write}
 use Rattle.sia_events.specs.Events.{actor}
 use Rattle.sia_events.specs.Known.{acts, writes}
 use Rattle.sia_events.specs.Drafts.{IsNew}
 use Rattle.sia_events.specs.LogTables.{AreOnce}
 use Rattle.sia_events.specs.Numbering.{entered, distinct, same_number, same_pair, keys_in, writes_in, ranges_in, txns_of, keys_of, writes_of, ranges_of, Names, names_of}
 use Rattle.sia_events.proofs.Shared.Faults.{same_true}
+use Rattle.sia_events.proofs.LogRows.RowsRead.{push_cases}
 
 abbrev pub Tells : {A : Type 0} → (A → A → Bool) → Type 0
 Tells {A} same = (x y : A) → same x y ≡ true → x ≡ y
@@ -63,12 +64,8 @@ unfolding txns_of
 numbered_acts t h = any_distinct same_number numbers_tell (same_number t) (map actor h) ∙ any_map t h
 
 any_writes_in : (q : ℕ × ℕ) (e : Event) → list_any (same_pair q) (writes_in e) ≡ writes q e
-any_writes_in q (Begin t start) = refl
-any_writes_in q (Read t k v) = refl
-any_writes_in q (Range t lo hi listed) = refl
 any_writes_in q (Write t k) = or-false ((q.0 == k) && (q.1 == t))
-any_writes_in q (Commit t) = refl
-any_writes_in q (Abort t) = refl
+any_writes_in q _ = refl
 
 any_writes : (q : ℕ × ℕ) (h : List Event) → list_any (same_pair q) (flat_map writes_in h) ≡ list_any (writes q) h
 any_writes q [] = refl
@@ -86,7 +83,7 @@ flat_push f h e = flat_map-append f h (e ∷ []) ∙ ap (λ xs. flat_map f h ++ 
 abbrev all_four : List ℕ → List ℕ → List (ℕ × ℕ) → List (ℕ × ℕ × List (ℕ × ℕ)) → Names
 all_four txns keys writes ranges = record { txns = txns; keys = keys; writes = writes; ranges = ranges }
 
-four : {a a' b b' : List ℕ} {c c' : List (ℕ × ℕ)} {d d' : List (ℕ × ℕ × List (ℕ × ℕ))} → a ≡ a' → b ≡ b' → c ≡ c' → d ≡ d' → all_four a b c d ≡ all_four a' b' c' d'
+pub four : {a a' b b' : List ℕ} {c c' : List (ℕ × ℕ)} {d d' : List (ℕ × ℕ × List (ℕ × ℕ))} → a ≡ a' → b ≡ b' → c ≡ c' → d ≡ d' → all_four a b c d ≡ all_four a' b' c' d'
 four p q r s = λ i. all_four (p i) (q i) (r i) (s i)
 
 pub names_push : (h : List Event) (e : Event) → names_of (h ++ e ∷ []) ≡ record { txns = entered same_number (txns_of h) (actor e); keys = fold (entered same_number) (keys_of h) (keys_in e); writes = fold (entered same_pair) (writes_of h) (writes_in e); ranges = ranges_of h ++ ranges_in e }
@@ -97,23 +94,13 @@ names_push h e = four
     (ap (distinct same_pair) (flat_push writes_in h e) ∙ fold-append (entered same_pair) [] (flat_map writes_in h) (writes_in e))
     (flat_push ranges_in h e)
 
--- names that stand once
-pub push_read : (xs : List ℕ) (x i v : ℕ) → slice_get (xs ++ x ∷ []) i ≡ Some v → (slice_get xs i ≡ Some v) ⊎ ((i ≡ length xs) × (v ≡ x))
-push_read [] x zero v at = inr (refl, (let e : Some x ≡ Some v = at in cc))
-push_read [] x (suc i) v at = absurd (let e : None ≡ Some v = at in cc)
-push_read (y ∷ ys) x zero v at = inl at
-push_read (y ∷ ys) x (suc i) v at = elim (push_read ys x i v at) [
-  | inl there ↦ inl there
-  | inr here ↦ inr (ap suc here.0, here.1)
-]
-
 pub once_push : (xs : List ℕ) (x : ℕ) → AreOnce xs → IsNew xs x → AreOnce (xs ++ x ∷ [])
-once_push xs x once new = λ i j v at_i at_j. elim (push_read xs x i v at_i) [
-  | inl a ↦ elim (push_read xs x j v at_j) [
+once_push xs x once new = λ i j v at_i at_j. elim (push_cases xs x i v at_i) [
+  | inl a ↦ elim (push_cases xs x j v at_j) [
     | inl b ↦ once i j v a b
     | inr b ↦ absurd (new i (rw (← b.1) a))
   ]
-  | inr a ↦ elim (push_read xs x j v at_j) [
+  | inr a ↦ elim (push_cases xs x j v at_j) [
     | inl b ↦ absurd (new j (rw (← a.1) b))
     | inr b ↦ a.0 ∙ sym b.0
   ]
@@ -136,10 +123,6 @@ entered_new xs x new = rw (new_none xs x new) refl
 
 pub entered_there : (xs : List ℕ) (n x : ℕ) → slice_get xs n ≡ Some x → entered same_number xs x ≡ xs
 entered_there xs n x at = rw (there_some xs n x at) refl
-
-pub push_there : (xs : List ℕ) (x n : ℕ) → n ≡ length xs → slice_get (xs ++ x ∷ []) n ≡ Some x
-push_there [] x n is = rw (is) refl
-push_there (y ∷ ys) x n is = rw (is) (push_there ys x (length ys) refl)
 
 entered_once : (xs : List ℕ) (x : ℕ) → AreOnce xs → AreOnce (entered same_number xs x)
 entered_once xs x once = by_there (list_any (same_number x) xs) refl where

@@ -1,5 +1,5 @@
 -- A finder that finds names goes on finding them where one more is taken in.
-use Rattle.std.proofs.Common.{◌≡◌, ◌≢◌, ◌⊎◌, inl, inr, ℕ, zero, suc, ◌+◌, ◌<◌, ◌≤◌, nat_lt, Bool, true, false, List, [], ◌∷◌, ◌++◌, length, set, Option, Some, None, refl, sym, subst, ◌∙◌, arith, slice_get}
+use Rattle.std.proofs.Common.{◌≡◌, ◌≢◌, ◌⊎◌, inl, inr, ℕ, ◌+◌, ◌<◌, ◌≤◌, nat_lt, Bool, true, false, List, [], ◌∷◌, ◌++◌, length, set, Option, Some, None, refl, sym, subst, ◌∙◌, arith, slice_get, ap}
 use Rattle.std.specs.Prelude.{◌==◌}
 use Rattle.std.specs.BTreeMap.{is_at, get}
 use Rattle.std.specs.Ordering.{nat_cmp}
@@ -8,25 +8,7 @@ use Rattle.std.proofs.lemmas.Bool.{eqb-true}
 use Rattle.std.proofs.lemmas.Option.{slice_get_within}
 use Rattle.sia_events.specs.declared.finder.Finder.{Finder}
 use Rattle.sia_events.specs.Finding.{home, AreTaken, IsInSlots, IsInTree, IsOther, Reaches, Finds, FindsBelow}
-
-set_read : (xs : List ℕ) (s i y v : ℕ) → slice_get (set xs s y) i ≡ Some v → (v ≡ y) ⊎ (slice_get xs i ≡ Some v)
-set_read [] s i y v is = inr is
-set_read (x ∷ xs) zero zero y v is = inl (let e : Some y ≡ Some v = is in cc)
-set_read (x ∷ xs) zero (suc i) y v is = inr is
-set_read (x ∷ xs) (suc s) zero y v is = inr is
-set_read (x ∷ xs) (suc s) (suc i) y v is = set_read xs s i y v is
-
-set_other : (xs : List ℕ) (s i y v w : ℕ) → slice_get xs s ≡ Some w → slice_get xs i ≡ Some v → v ≢ w → slice_get (set xs s y) i ≡ Some v
-set_other [] s i y v w at is ne = is
-set_other (x ∷ xs) zero zero y v w at is ne = let a : Some x ≡ Some w = at in let b : Some x ≡ Some v = is in absurd (ne cc)
-set_other (x ∷ xs) zero (suc i) y v w at is ne = is
-set_other (x ∷ xs) (suc s) zero y v w at is ne = is
-set_other (x ∷ xs) (suc s) (suc i) y v w at is ne = set_other xs s i y v w at is ne
-
-set_same : (xs : List ℕ) (s y w : ℕ) → slice_get xs s ≡ Some w → slice_get (set xs s y) s ≡ Some y
-set_same [] s y w at = absurd cc
-set_same (x ∷ xs) zero y w at = refl
-set_same (x ∷ xs) (suc s) y w at = set_same xs s y w at
+use Rattle.sia_events.proofs.LogRows.RowsRead.{set_here, get_more, get_less, set_cases, set_apart}
 
 moved : (old now slots : List ℕ) (here there e : ℕ) → slots ≡ now → there ≡ here → slice_get slots (there + e) ≡ Some 0 → slice_get now (here + e) ≡ Some 0
 moved old now slots here there e is at free = rw (← is, ← at) free
@@ -46,19 +28,19 @@ module _ (f g : Finder) (s n : ℕ) (p : IsFilled f g s n) where
 
   still_taken : (name d : ℕ) → AreTaken f.slots.items (home f name) d → AreTaken g.slots.items (home g name) d
   still_taken name d taken = λ e less free.
-      elim (set_read f.slots.items s (home f name + e) (n + 1) 0 (moved f.slots.items (set f.slots.items s (n + 1)) g.slots.items (home f name) (home g name) e p.slots (same_home name) free)) [
-        | inl wrong ↦ absurd (omega arith)
-        | inr was ↦ taken e less was
+      elim (set_cases f.slots.items s (home f name + e) (n + 1) 0 (moved f.slots.items (set f.slots.items s (n + 1)) g.slots.items (home f name) (home g name) e p.slots (same_home name) free)) [
+        | inl was ↦ taken e less was
+        | inr wrong ↦ absurd (let z : 0 ≡ n + 1 = wrong.1 in omega arith)
       ]
 
   pub filled_keeps : (names : List ℕ) (name : ℕ) → Reaches f names name → Reaches g names name
   unfolding Reaches
-  filled_keeps names name (inl (d, m, less, at, named, taken)) = inl (d, m, less, rw (same_home name, p.slots) (set_other f.slots.items s (home f name + d) (n + 1) (m + 1) 0 p.free at (λ e. omega arith)), named, still_taken name d taken)
+  filled_keeps names name (inl (d, m, less, at, named, taken)) = inl (d, m, less, rw (same_home name, p.slots) (set_apart f.slots.items s (home f name + d) (n + 1) (m + 1) (λ e. let zero_there : Some (m + 1) ≡ Some 0 = sym at ∙ ap (slice_get f.slots.items) e ∙ p.free in absurd (let z : m + 1 ≡ 0 = cc in omega arith)) at), named, still_taken name d taken)
   filled_keeps names name (inr (m, at, named, taken)) = inr (m, rw (p.tree) at, named, still_taken name 8 taken)
 
   pub filled_finds : (names : List ℕ) (name d : ℕ) → s ≡ home f name + d → d < 8 → AreTaken f.slots.items (home f name) d → slice_get names n ≡ Some name → Reaches g names name
   unfolding Reaches
-  filled_finds names name d here less taken named = inl (d, n, less, rw (same_home name, ← here, p.slots) (set_same f.slots.items s (n + 1) 0 p.free), named, still_taken name d taken)
+  filled_finds names name d here less taken named = inl (d, n, less, rw (same_home name, ← here, p.slots) (set_here f.slots.items s (n + 1) 0 p.free), named, still_taken name d taken)
 
 -- the tree gets one more
 pub record IsGrown (f g : Finder) (name n : ℕ) : Type 0 where
@@ -92,29 +74,18 @@ module _ (f g : Finder) (name n : ℕ) (p : IsGrown f g name n) where
     by_name true same = let e : x ≡ name = eqb-true x name same in subst (λ (y : ℕ). IsInSlots g names y ⊎ IsInTree g names y) (sym e) (inr (n, p.here, named, taken_grown name 8 p.taken))
     by_name false other = inr (m, p.others x (other_in_tree name x other) ∙ at, is, taken_grown x 8 taken)
 
--- more names leave those before as they are
-slice_get_more : (xs ys : List ℕ) (i v : ℕ) → slice_get xs i ≡ Some v → slice_get (xs ++ ys) i ≡ Some v
-slice_get_more [] ys i v at = absurd cc
-slice_get_more (x ∷ xs) ys zero v at = at
-slice_get_more (x ∷ xs) ys (suc i) v at = slice_get_more xs ys i v at
-
-slice_get_less : (xs ys : List ℕ) (i v : ℕ) → i < length xs → slice_get (xs ++ ys) i ≡ Some v → slice_get xs i ≡ Some v
-slice_get_less [] ys i v less at = absurd (omega arith)
-slice_get_less (x ∷ xs) ys zero v less at = at
-slice_get_less (x ∷ xs) ys (suc i) v less at = slice_get_less xs ys i v (omega arith) at
-
 reaches_more : (f : Finder) (names more : List ℕ) (x : ℕ) → Reaches f names x → Reaches f (names ++ more) x
 unfolding Reaches
-reaches_more f names more x (inl (d, m, less, at, is, taken)) = inl (d, m, less, at, slice_get_more names more m x is, taken)
-reaches_more f names more x (inr (m, at, is, taken)) = inr (m, at, slice_get_more names more m x is, taken)
+reaches_more f names more x (inl (d, m, less, at, is, taken)) = inl (d, m, less, at, get_more names more m x is, taken)
+reaches_more f names more x (inr (m, at, is, taken)) = inr (m, at, get_more names more m x is, taken)
 
 pub below_last : (f : Finder) (names before : List ℕ) (last end : ℕ) → names ≡ before ++ last ∷ [] → end ≡ length before → Finds f before → FindsBelow f names end
 unfolding Finds FindsBelow
-below_last f names before last end is at finds = rw (is) (λ n x less here. reaches_more f before (last ∷ []) x (finds n x (slice_get_less before (last ∷ []) n x (rw (← at) less) here)))
+below_last f names before last end is at finds = rw (is) (λ n x less here. reaches_more f before (last ∷ []) x (finds n x (get_less before (last ∷ []) n x (rw (← at) less) here)))
 
 pub below_append : (f : Finder) (names more : List ℕ) (end : ℕ) → end ≤ length names → FindsBelow f names end → FindsBelow f (names ++ more) end
 unfolding FindsBelow
-below_append f names more end within below = λ n x less here. reaches_more f names more x (below n x less (slice_get_less names more n x (omega arith) here))
+below_append f names more end within below = λ n x less here. reaches_more f names more x (below n x less (get_less names more n x (omega arith) here))
 
 pub finds_below : (f : Finder) (names : List ℕ) (end : ℕ) → Finds f names → FindsBelow f names end
 unfolding Finds FindsBelow

@@ -1,5 +1,5 @@
 -- Where transactions start and how they end, with one event more.
-use Rattle.std.proofs.Common.{◌≡◌, ◌≢◌, ◌⊎◌, inl, inr, ℕ, zero, suc, ◌<◌, ◌≤◌, Bool, true, false, List, [], ◌∷◌, ◌++◌, length, take, set, Option, Some, None, refl, sym, subst, ap, arith, slice_get}
+use Rattle.std.proofs.Common.{◌≡◌, ◌≢◌, ◌⊎◌, inl, inr, ℕ, zero, suc, ◌≤◌, Bool, true, false, List, [], ◌∷◌, ◌++◌, length, take, set, Option, Some, None, refl, sym, subst, ap, arith, slice_get}
 use Rattle.std.specs.Prelude.{All, ◌==◌, MatchOption}
 use Rattle.std.specs.List.{list_any}
 use Rattle.std.proofs.Math.Seq.{take-append_seam}
@@ -19,30 +19,17 @@ use Rattle.sia_events.proofs.Shared.Faults.{IsAmong, any_among, among_any, same_
 use Rattle.std.proofs.lemmas.Bool.{or_parts}
 use Rattle.std.proofs.lemmas.Bool.Decides.{nat_tests}
 use Rattle.std.proofs.lemmas.Option.{get_or_from_slice_get, slice_get_within}
-use Rattle.sia_events.proofs.LogRows.Logs.{all_cons, all_none}
 use Rattle.sia_events.proofs.Shared.EventTests.{starts_before, starts_named, acts as as_test}
-
-push_get : (h : List Event) (e f : Event) (i : ℕ) → slice_get (h ++ e ∷ []) i ≡ Some f → (slice_get h i ≡ Some f) ⊎ ((i ≡ length h) × (f ≡ e))
-push_get [] e f zero at = inr (refl, (let x : Some e ≡ Some f = at in cc))
-push_get [] e f (suc i) at = absurd (let x : None ≡ Some f = at in cc)
-push_get (g ∷ h) e f zero at = inl at
-push_get (g ∷ h) e f (suc i) at = elim (push_get h e f i at) [
-  | inl there ↦ inl there
-  | inr here ↦ inr (ap suc here.0, here.1)
-]
-
-get_more : (h : List Event) (e f : Event) (i : ℕ) → slice_get h i ≡ Some f → slice_get (h ++ e ∷ []) i ≡ Some f
-get_more [] e f i at = absurd (let x : None ≡ Some f = at in cc)
-get_more (g ∷ h) e f zero at = at
-get_more (g ∷ h) e f (suc i) at = get_more h e f i at
+use Rattle.std.proofs.lemmas.List.Elements.{All-cons, All-nil}
+use Rattle.sia_events.proofs.LogRows.RowsRead.{get_more, push_cases}
 
 pub at_more : (h : List Event) (e f : Event) (p : ℕ) → at_place h p ≡ Some f → at_place (h ++ e ∷ []) p ≡ Some f
 at_more h e f zero at = absurd (let x : None ≡ Some f = at in cc)
-at_more h e f (suc i) at = get_more h e f i at
+at_more h e f (suc i) at = get_more h (e ∷ []) i f at
 
 pub at_push : (h : List Event) (e f : Event) (p : ℕ) → at_place (h ++ e ∷ []) p ≡ Some f → (at_place h p ≡ Some f) ⊎ ((p ≡ suc (length h)) × (f ≡ e))
 at_push h e f zero at = absurd (let x : None ≡ Some f = at in cc)
-at_push h e f (suc i) at = elim (push_get h e f i at) [
+at_push h e f (suc i) at = elim (push_cases h e i f at) [
   | inl there ↦ inl there
   | inr here ↦ inr (ap suc here.0, here.1)
 ]
@@ -51,14 +38,9 @@ pub at_last : (h : List Event) (e : Event) → at_place (h ++ e ∷ []) (suc (le
 at_last [] e = refl
 at_last (g ∷ h) e = at_last h e
 
-within_len : (h : List Event) (i : ℕ) (f : Event) → slice_get h i ≡ Some f → i < length h
-within_len [] i f at = absurd (let x : None ≡ Some f = at in cc)
-within_len (g ∷ h) zero f at = omega arith
-within_len (g ∷ h) (suc i) f at = let r = within_len h i f at in omega arith
-
 pub place_in : (h : List Event) (p : ℕ) (f : Event) → at_place h p ≡ Some f → p ≤ length h
 place_in h zero f at = omega arith
-place_in h (suc i) f at = let r = within_len h i f at in omega arith
+place_in h (suc i) f at = let r = slice_get_within h i f at in omega arith
 
 among_at : (h : List Event) (f : Event) (p : ℕ) → at_place h p ≡ Some f → IsAmong h f
 among_at h f zero at = absurd (let x : None ≡ Some f = at in cc)
@@ -68,8 +50,8 @@ at_among : (h : List Event) (f : Event) → IsAmong h f → (p : ℕ) × (at_pla
 at_among h f among = (suc among.0, among.1)
 
 from_get : {A : Type 0} (P : A → Type 0) (xs : List A) → ((k : ℕ) (x : A) → slice_get xs k ≡ Some x → P x) → All P xs
-from_get P [] each = all_none P
-from_get P (x ∷ xs) each = all_cons P x xs (each 0 x refl) (from_get P xs (λ k y at. each (suc k) y at))
+from_get P [] each = All-nil P
+from_get P (x ∷ xs) each = All-cons P x xs (each 0 x refl) (from_get P xs (λ k y at. each (suc k) y at))
 
 pub to_get : {A : Type 0} (P : A → Type 0) (xs : List A) (k : ℕ) (x : A) → All P xs → slice_get xs k ≡ Some x → P x
 to_get P xs k x all at = subst P (get_or_from_slice_get xs k x x at) (all k x (slice_get_within xs k x at))
@@ -147,8 +129,8 @@ lives_going h name is = by_any (list_any (ends name) h) refl where
 -- a row is set, and the others live by their numbers
 pub all_set : {A : Type 0} (P : A → Type 0) (xs : List A) (d : ℕ) (y : A) → ((k : ℕ) (x : A) → slice_get xs k ≡ Some x → k ≢ d → P x) → P y → All P (set xs d y)
 all_set P [] d y others here = λ k x less. absurd (omega arith)
-all_set P (x ∷ xs) zero y others here = all_cons P y xs here (from_get P xs (λ k z at. others (suc k) z at (λ e. omega arith)))
-all_set P (x ∷ xs) (suc d) y others here = all_cons P x (set xs d y) (others 0 x refl (λ e. omega arith)) (all_set P xs d y (λ k z at ne. others (suc k) z at (λ e. ne (omega arith))) here)
+all_set P (x ∷ xs) zero y others here = All-cons P y xs here (from_get P xs (λ k z at. others (suc k) z at (λ e. omega arith)))
+all_set P (x ∷ xs) (suc d) y others here = All-cons P x (set xs d y) (others 0 x refl (λ e. omega arith)) (all_set P xs d y (λ k z at ne. others (suc k) z at (λ e. ne (omega arith))) here)
 
 pub other_false : (m n : ℕ) → m ≢ n → (m == n) ≡ false
 other_false m n ne = grind (arith, nat_tests)

@@ -4,7 +4,7 @@ use Rattle.std.specs.Prelude.{All, if◌then◌else◌}
 use Rattle.std.specs.List.{list_any}
 use Rattle.std.proofs.lemmas.Bool.Decides.{nat_tests}
 use Rattle.std.proofs.lemmas.List.{length-map, length-append, length-drop, map-append, append-nil, drop-append-le, take-append-le}
-use Rattle.std.proofs.lemmas.List.Elements.{All-append, All-drop}
+use Rattle.std.proofs.lemmas.List.Elements.{All-append, All-drop, All-take, All-cons, All-nil}
 use Rattle.std.proofs.lemmas.Option.{slice_get_within}
 use Rattle.std.proofs.Math.ListN.{get_or-append}
 use Rattle.sia_events.specs.declared.event.Event.{Event}
@@ -18,17 +18,14 @@ use Rattle.sia_events.specs.Numbering.{Names, entered, same_number, txn_at, key_
 use Rattle.sia_events.specs.Drafts.{SameButTxns, SameButKeys, SameButWrites, IsNew}
 use Rattle.sia_events.proofs.LogRows.Distinct.{once_push}
 use Rattle.sia_events.specs.LogTables.{txn_names, write_names, range_of, names_but_ranges, names_in, events_of, IsWriteRow, IsRangeRow, AreOnce, AreSound, AreShort}
+use Rattle.sia_events.proofs.LogRows.RowsRead.{get_more}
 
 -- ys goes on where xs ends
 abbrev pub IsFront : {A : Type 0} → List A → List A → Type 0
 IsFront {A} xs ys = (more : List A) × (ys ≡ xs ++ more)
 
 pub front_get : {A : Type 0} (xs ys : List A) (i : ℕ) (v : A) → IsFront xs ys → slice_get xs i ≡ Some v → slice_get ys i ≡ Some v
-front_get xs ys i v front at = rw (front.1) (more_get xs front.0 i v at) where
-  more_get : {A : Type 0} (xs more : List A) (i : ℕ) (v : A) → slice_get xs i ≡ Some v → slice_get (xs ++ more) i ≡ Some v
-  more_get [] more i v at = absurd cc
-  more_get (x ∷ xs) more zero v at = at
-  more_get (x ∷ xs) more (suc i) v at = more_get xs more i v at
+front_get xs ys i v front at = rw (front.1) (get_more xs front.0 i v at)
 
 pub front_or : {A : Type 0} (xs ys : List A) (i : ℕ) (d : A) → IsFront xs ys → i < length xs → get_or ys i d ≡ get_or xs i d
 front_or xs ys i d front less = rw (front.1) (get_or-append xs front.0 d i less)
@@ -115,23 +112,11 @@ map_same f g P (x ∷ xs) same all = ap₂ (λ y ys. y ∷ ys) (same x (all 0 x 
 pub all_more : {A : Type 0} (P Q : A → Type 0) (xs : List A) → ((x : A) → P x → Q x) → All P xs → All Q xs
 all_more P Q xs more all = λ k d less. more (get_or xs k d) (all k d less)
 
-pub all_cons : {A : Type 0} (P : A → Type 0) (x : A) (xs : List A) → P x → All P xs → (k : ℕ) (d : A) → k < length (x ∷ xs) → P (get_or (x ∷ xs) k d)
-all_cons P x xs here rest zero d less = here
-all_cons P x xs here rest (suc k) d less = rest k d (omega arith)
-
-pub all_none : {A : Type 0} (P : A → Type 0) → All P []
-all_none P = λ k d less. absurd (omega arith)
-
-all_take : {A : Type 0} (P : A → Type 0) (n : ℕ) (xs : List A) → All P xs → All P (take n xs)
-all_take P zero xs all = all_none P
-all_take P (suc n) [] all = all_none P
-all_take P (suc n) (x ∷ xs) all = all_cons P x (take n xs) (all 0 x (omega arith)) (all_take P n xs (λ k d less. all (suc k) d (omega arith)))
-
 part_same : (xs more : List ℕ) (from to : ℕ) → from ≤ to → to ≤ length xs → take (to - from) (drop from (xs ++ more)) ≡ take (to - from) (drop from xs)
 part_same xs more from to up within = ap (take (to - from)) (drop-append-le from xs more (omega arith)) ∙ take-append-le (to - from) (drop from xs) more (let l = length-drop from xs in omega arith)
 
 all_part : (P : ℕ → Type 0) (xs : List ℕ) (from to : ℕ) → All P xs → All P (take (to - from) (drop from xs))
-all_part P xs from to all = all_take P (to - from) (drop from xs) (All-drop P from xs all)
+all_part P xs from to all = All-take P (to - from) (drop from xs) (All-drop P from xs all)
 
 -- what stands behind the others has P
 abbrev pub IsMore : {A : Type 0} → (A → Type 0) → List A → List A → Type 0
@@ -207,10 +192,10 @@ module _ (t u : Tables) (sound : AreSound t) (grows : Grows t u) where
   events_same few = map_same (event_of (names_in u)) (event_of (names_in t)) (IsWithin (names_in t)) t.events.items (event_same (names_in t) (names_in u) (extends few)) sound.rows
 
 pub more_none : {A : Type 0} (P : A → Type 0) (xs ys : List A) → ys ≡ xs → IsMore P xs ys
-more_none P xs ys is = ([], is ∙ sym (append-nil xs), all_none P)
+more_none P xs ys is = ([], is ∙ sym (append-nil xs), All-nil P)
 
 pub more_one : {A : Type 0} (P : A → Type 0) (xs ys : List A) (x : A) → ys ≡ xs ++ x ∷ [] → P x → IsMore P xs ys
-more_one P xs ys x is here = (x ∷ [], is, all_cons P x [] here (all_none P))
+more_one P xs ys x is here = (x ∷ [], is, All-cons P x [] here (All-nil P))
 
 pub few_writes : (u : Tables) → length u.writes.items ≤ 536870912 → length (names_in u).writes < mark
 few_writes u few = let l : length (names_in u).writes ≡ length u.writes.items = length-map u.writes.items (λ w. (get_or u.keys.items w.key 0, get_or (txn_names u.txns.items) w.txn 0)) in omega arith
@@ -316,13 +301,9 @@ grows_step t u v a b = record {
 
 module _ (a b : Names) (x : Extends a b) where
   pub marked_more : (before : List Event) (r : Row) → IsWithin a r → IsMarked a before r → IsMarked b before r
-  marked_more before (rows.Begin d start) w m = m
   marked_more before (rows.Read d k s) w m = rw (key_same a b x k w.1, txn_same a b x d w.0) m
   marked_more before (rows.OwnRead d k s) w m = rw (key_same a b x k w.1, txn_same a b x d w.0) m
-  marked_more before (rows.Range d r n) w m = m
-  marked_more before (rows.Write d k n) w m = m
-  marked_more before (rows.Commit d) w m = m
-  marked_more before (rows.Abort d) w m = m
+  marked_more before _ w m = m
 
 -- one listed pair more
 pub pair_grown : (t u : Tables) (p : ℕ) → AreSound t → u.txns.items ≡ t.txns.items → u.keys.items ≡ t.keys.items → u.writes.items ≡ t.writes.items → u.ranges.items ≡ t.ranges.items → u.events.items ≡ t.events.items → u.pairs.items ≡ t.pairs.items ++ p ∷ [] → length t.pairs.items < 2147483648 → IsPair (names_in t) p → AreSound u × Grows t u

@@ -12,41 +12,7 @@ use Rattle.sia_events.specs.Finding.{FindsBelow}
 use Rattle.sia_events.specs.OwnWrites.{Tracks, IsOwn, IsNoneOf, new_write, write_code}
 use Rattle.sia_events.proofs.LogRows.Logs.{front_get}
 use Rattle.sia_events.proofs.LogRows.Finders.{below_append, below_none}
-
-pub push_cases : {A : Type 0} (xs : List A) (x : A) (i : ℕ) (v : A) → slice_get (xs ++ x ∷ []) i ≡ Some v → (slice_get xs i ≡ Some v) ⊎ ((i ≡ length xs) × (v ≡ x))
-push_cases [] x zero v at = inr (refl, (let e : Some x ≡ Some v = at in cc))
-push_cases [] x (suc i) v at = absurd (let e : None ≡ Some v = at in cc)
-push_cases (y ∷ ys) x zero v at = inl at
-push_cases (y ∷ ys) x (suc i) v at = elim (push_cases ys x i v at) [
-  | inl there ↦ inl there
-  | inr here ↦ inr (ap suc here.0, here.1)
-]
-
-pub set_cases : {A : Type 0} (xs : List A) (s i : ℕ) (y v : A) → slice_get (set xs s y) i ≡ Some v → (slice_get xs i ≡ Some v) ⊎ ((i ≡ s) × (v ≡ y))
-set_cases [] s i y v at = inl at
-set_cases (x ∷ xs) zero zero y v at = inr (refl, (let e : Some y ≡ Some v = at in cc))
-set_cases (x ∷ xs) zero (suc i) y v at = inl at
-set_cases (x ∷ xs) (suc s) zero y v at = inl at
-set_cases (x ∷ xs) (suc s) (suc i) y v at = elim (set_cases xs s i y v at) [
-  | inl there ↦ inl there
-  | inr here ↦ inr (ap suc here.0, here.1)
-]
-
-set_here : {A : Type 0} (xs : List A) (s : ℕ) (y v : A) → slice_get xs s ≡ Some v → slice_get (set xs s y) s ≡ Some y
-set_here [] s y v at = absurd (let e : None ≡ Some v = at in cc)
-set_here (x ∷ xs) zero y v at = refl
-set_here (x ∷ xs) (suc s) y v at = set_here xs s y v at
-
-set_apart : {A : Type 0} (xs : List A) (s i : ℕ) (y v : A) → i ≢ s → slice_get xs i ≡ Some v → slice_get (set xs s y) i ≡ Some v
-set_apart [] s i y v ne at = at
-set_apart (x ∷ xs) zero zero y v ne at = absurd (ne refl)
-set_apart (x ∷ xs) zero (suc i) y v ne at = at
-set_apart (x ∷ xs) (suc s) zero y v ne at = at
-set_apart (x ∷ xs) (suc s) (suc i) y v ne at = set_apart xs s i y v (λ e. ne (ap suc e)) at
-
-last_there : {A : Type 0} (xs : List A) (x : A) (n : ℕ) → n ≡ length xs → slice_get (xs ++ x ∷ []) n ≡ Some x
-last_there [] x n is = rw (is) refl
-last_there (y ∷ ys) x n is = rw (is) (last_there ys x (length ys) refl)
+use Rattle.sia_events.proofs.LogRows.RowsRead.{push_cases, last_there, set_cases, set_here, set_apart}
 
 one_writer : (xs : List Writer) (i : ℕ) (x y : Writer) → slice_get xs i ≡ Some x → slice_get xs i ≡ Some y → x ≡ y
 one_writer xs i x y a b = let e : Some x ≡ Some y = sym a ∙ b in cc

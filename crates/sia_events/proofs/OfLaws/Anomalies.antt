@@ -2,7 +2,7 @@
 use Rattle.std.proofs.Common.{◌≡◌, ◌≢◌, ◌⊎◌, inl, inr, ℕ, ◌+◌, ◌<◌, ◌≤◌, List, refl, sym, subst, ◌∙◌, arith}
 use Rattle.std.proofs.lemmas.Bool.{cases_lt, cases_eq, cases_order}
 use Rattle.sia_events.specs.declared.event.Event.{Event}
-use Rattle.sia_events.specs.declared.event.Event.TheVariants.{Begin, Read, Range, Write, Commit, Abort}
+use Rattle.sia_events.specs.declared.event.Event.TheVariants.{Range, Write}
 use Rattle.sia_events.specs.declared.event.Anomaly.{Anomaly}
 use Rattle.sia_events.specs.declared.event.Anomaly.TheVariants.{OwnWriteMissed, AbortedRead, UncommittedRead, FutureRead, Phantom, StaleRead}
 use Rattle.sia_events.specs.Refusals.{IsWellFormed}
@@ -24,17 +24,12 @@ use Rattle.sia_events.proofs.OfLaws.Due.{has_due, one_due}
 -- two anomalies have two numbers
 one_anomaly : (a b : Anomaly) → anomaly_number a ≡ anomaly_number b → a ≡ b
 one_anomaly OwnWriteMissed OwnWriteMissed same = refl
-one_anomaly OwnWriteMissed b same = absurd (omega arith)
 one_anomaly AbortedRead AbortedRead same = refl
-one_anomaly AbortedRead b same = absurd (omega arith)
 one_anomaly UncommittedRead UncommittedRead same = refl
-one_anomaly UncommittedRead b same = absurd (omega arith)
 one_anomaly FutureRead FutureRead same = refl
-one_anomaly FutureRead b same = absurd (omega arith)
 one_anomaly Phantom Phantom same = refl
-one_anomaly Phantom b same = absurd (omega arith)
 one_anomaly StaleRead StaleRead same = refl
-one_anomaly StaleRead b same = absurd (omega arith)
+one_anomaly _ b same = absurd (omega arith)
 
 module _ (h : List Event) (p t k saw due : ℕ) where
   -- two names of a read are one
@@ -52,11 +47,7 @@ module _ (h : List Event) (p t k saw due : ℕ) where
   -- none is before the first, and where one doesn't fit, none is before the next
   pub none_below_first : NoneBelow h p t k saw due 1
   none_below_first OwnWriteMissed below fits = omega arith
-  none_below_first AbortedRead below fits = omega arith
-  none_below_first UncommittedRead below fits = omega arith
-  none_below_first FutureRead below fits = omega arith
-  none_below_first Phantom below fits = omega arith
-  none_below_first StaleRead below fits = omega arith
+  none_below_first _ below fits = omega arith
 
   pub none_below_next : (name : Anomaly) → NoneBelow h p t k saw due (anomaly_number name) → ¬ Fits h p t k saw due name → NoneBelow h p t k saw due (anomaly_number name + 1)
   none_below_next name none fails other below fits = elim (cases_eq (anomaly_number other) (anomaly_number name)) [
@@ -72,12 +63,8 @@ module _ (h : List Event) (p t k saw due : ℕ) where
 
 -- whether an event leaves out a key
 leaves_out_or_not : (e : Event) (k : ℕ) → Decided (LeavesOut e k)
-leaves_out_or_not (Begin t start) k = inr (λ l. l)
-leaves_out_or_not (Read t key saw) k = inr (λ l. l)
 leaves_out_or_not (Range t lo hi listed) k = elim (listed_or_not listed k) [ inl found ↦ inr (λ l. l found.0 found.1) | inr none ↦ inl none ]
-leaves_out_or_not (Write t key) k = inr (λ l. l)
-leaves_out_or_not (Commit t) k = inr (λ l. l)
-leaves_out_or_not (Abort t) k = inr (λ l. l)
+leaves_out_or_not _ k = inr (λ l. l)
 
 phantom_or_not : (h : List Event) (p t k saw due : ℕ) → SawAt h p t k saw → Decided (Fits h p t k saw due Phantom)
 phantom_or_not h p t k saw due s = elim (cases_eq due 0) [

@@ -3,7 +3,7 @@ use Rattle.std.proofs.Common.{◌≡◌, inl, inr, ℕ, suc, ◌+◌, ◌≤◌,
 use Rattle.sia_events.specs.Limits.{Limits, greatest, AreWithin}
 use Rattle.sia_events.specs.declared.event.Event.{Event}
 use Rattle.sia_events.specs.declared.fault.Reason.{Reason}
-use Rattle.sia_events.specs.declared.fault.Reason.TheVariants.{TooManyEvents, BadEvent, BadNumber, AlreadyEnded, AlreadyBegun, EmptyRange, BadList, NotWritten, BadStart}
+use Rattle.sia_events.specs.declared.fault.Reason.TheVariants.{TooManyEvents, BadEvent}
 use Rattle.sia_events.specs.declared.fault.TextFault.TheVariants.{NoMemory, TextTooLong, Refused}
 use Rattle.sia_events.specs.Text.{spell, tokens, canonical, StandsFor}
 use Rattle.sia_events.specs.Refusals.{HasReason, AnyForm, IsAccepted, IsWellFormed}
@@ -43,14 +43,7 @@ none_more limits others text within a i TooManyEvents has =
     let there : i ≤ length (tokens text) = (place_within (tokens text) i has.0 has.1).1 in
     let found = at_index (tokens text) limits.events (omega arith) in
     accepted_none limits text a (suc limits.events) TooManyEvents (found.0, found.1, omega arith)
-none_more limits others text within a i BadEvent has = accepted_none limits text a i BadEvent has
-none_more limits others text within a i BadNumber has = accepted_none limits text a i BadNumber has
-none_more limits others text within a i AlreadyEnded has = accepted_none limits text a i AlreadyEnded has
-none_more limits others text within a i AlreadyBegun has = accepted_none limits text a i AlreadyBegun has
-none_more limits others text within a i EmptyRange has = accepted_none limits text a i EmptyRange has
-none_more limits others text within a i BadList has = accepted_none limits text a i BadList has
-none_more limits others text within a i NotWritten has = accepted_none limits text a i NotWritten has
-none_more limits others text within a i BadStart has = accepted_none limits text a i BadStart has
+none_more limits others text within a i s has = accepted_none limits text a i s has
 
 -- a text with the same tokens, no longer than an accepted one, is accepted
 accepted_alike : (limits others : Limits) (text other : List ℕ) → AreWithin limits others → tokens other ≡ tokens text → length other ≤ length text → IsAccepted limits text → IsAccepted others other

@@ -6,7 +6,7 @@ use Rattle.std.proofs.lemmas.Option.{MatchOption-at_none}
 use Rattle.sia_events.specs.Limits.{Limits}
 use Rattle.sia_events.specs.declared.event.Event.{Event}
 use Rattle.sia_events.specs.declared.fault.Reason.{Reason}
-use Rattle.sia_events.specs.declared.fault.Reason.TheVariants.{TooManyEvents, BadEvent, BadNumber, AlreadyEnded, AlreadyBegun, EmptyRange, BadList, NotWritten, BadStart}
+use Rattle.sia_events.specs.declared.fault.Reason.TheVariants.{TooManyEvents, BadEvent}
 use Rattle.sia_events.specs.declared.fault.TextFault.{TextFault}
 use Rattle.sia_events.specs.declared.fault.TextFault.TheVariants.{NoMemory, TextTooLong, Refused}
 use Rattle.sia_events.specs.Places.{at_place}
@@ -19,6 +19,7 @@ use Rattle.sia_events.proofs.Shared.Decisions.{Decided, at_most}
 use Rattle.sia_events.proofs.Shared.Spelling.{spell_injective}
 use Rattle.sia_events.proofs.OfLaws.Unspelling.{spelling_or_not}
 use Rattle.sia_events.proofs.Writing.WellFormed.{accepted_short, accepted_none_in, place_spelled}
+use Rattle.sia_events.proofs.Shared.FirstFaults.{above_two}
 
 -- whether an event names a start can be told
 plain_or_not : (e : Event) → Decided (IsPlain e)
@@ -39,25 +40,13 @@ module _ (limits : Limits) (ts : List (List ℕ)) (i : ℕ) (w : List ℕ) where
       of_reason : (r : Reason) → TokenHas limits AnyForm ts i w r → TokenHas limits IsPlain ts i w r
       of_reason TooManyEvents h = h
       of_reason BadEvent h = absurd (h e tt is)
-      of_reason BadNumber h = (h.0, as_plain h.0 h.2, h.2, h.3)
-      of_reason AlreadyEnded h = (h.0, as_plain h.0 h.2, h.2, h.3)
-      of_reason AlreadyBegun h = (h.0, as_plain h.0 h.2, h.2, h.3)
-      of_reason EmptyRange h = (h.0, as_plain h.0 h.2, h.2, h.3)
-      of_reason BadList h = (h.0, as_plain h.0 h.2, h.2, h.3)
-      of_reason NotWritten h = (h.0, as_plain h.0 h.2, h.2, h.3)
-      of_reason BadStart h = (h.0, as_plain h.0 h.2, h.2, h.3)
+      of_reason _ h = (h.0, as_plain h.0 h.2, h.2, h.3)
 
   -- but for a spelling of no event, a reason without named starts is one in the whole grammar
   any_has : (r : Reason) → reason_number r ≢ 3 → TokenHas limits IsPlain ts i w r → TokenHas limits AnyForm ts i w r
   any_has TooManyEvents other h = h
   any_has BadEvent other h = absurd (other refl)
-  any_has BadNumber other h = (h.0, tt, h.2, h.3)
-  any_has AlreadyEnded other h = (h.0, tt, h.2, h.3)
-  any_has AlreadyBegun other h = (h.0, tt, h.2, h.3)
-  any_has EmptyRange other h = (h.0, tt, h.2, h.3)
-  any_has BadList other h = (h.0, tt, h.2, h.3)
-  any_has NotWritten other h = (h.0, tt, h.2, h.3)
-  any_has BadStart other h = (h.0, tt, h.2, h.3)
+  any_has _ other h = (h.0, tt, h.2, h.3)
 
 -- where a token spells a plain event, its reasons are those without named starts
 plain_or : (limits : Limits) (ts : List (List ℕ)) (i : ℕ) (r : Reason) → ¬ HasReasonIn limits IsPlain ts i BadEvent → HasReasonIn limits AnyForm ts i r → ¬ ¬ HasReasonIn limits IsPlain ts i r
@@ -82,30 +71,11 @@ module _ (limits : Limits) (ts : List (List ℕ)) (i : ℕ) (r : Reason) (fault 
 -- the reasons from BadEvent on have numbers from 3
 from_three : (limits : Limits) (ts : List (List ℕ)) (i : ℕ) → ¬ HasReasonIn limits AnyForm ts i TooManyEvents → (s : Reason) → HasReasonIn limits AnyForm ts i s → 3 ≤ reason_number s
 from_three limits ts i few TooManyEvents h = absurd (few h)
-from_three limits ts i few BadEvent h = omega arith
-from_three limits ts i few BadNumber h = omega arith
-from_three limits ts i few AlreadyEnded h = omega arith
-from_three limits ts i few AlreadyBegun h = omega arith
-from_three limits ts i few EmptyRange h = omega arith
-from_three limits ts i few BadList h = omega arith
-from_three limits ts i few NotWritten h = omega arith
-from_three limits ts i few BadStart h = omega arith
-
--- each reason's number is 2 or more
-from_two : (s : Reason) → 2 ≤ reason_number s
-from_two TooManyEvents = omega arith
-from_two BadEvent = omega arith
-from_two BadNumber = omega arith
-from_two AlreadyEnded = omega arith
-from_two AlreadyBegun = omega arith
-from_two EmptyRange = omega arith
-from_two BadList = omega arith
-from_two NotWritten = omega arith
-from_two BadStart = omega arith
+from_three limits ts i few _ h = omega arith
 
 -- the first fault is the same, unless its token has the form of a named start
 fault_alike : (limits : Limits) (text : List ℕ) (i : ℕ) (r : Reason) → IsFirstFaultIn limits IsPlain (tokens text) i r → IsFirstFaultIn limits AnyForm (tokens text) i r ⊎ ((Refused i r ≡ Refused i BadEvent) × NamesStart text i)
-fault_alike limits text i TooManyEvents f = inl (record { has = f.has; first = still_first limits (tokens text) i TooManyEvents f; least = λ s h. from_two s })
+fault_alike limits text i TooManyEvents f = inl (record { has = f.has; first = still_first limits (tokens text) i TooManyEvents f; least = λ s h. above_two s })
 fault_alike limits text i BadEvent f = elim (spelling_or_not f.has.0) [
   | inl is ↦ inr (refl, (is.0, (λ plain. f.has.2 is.0 plain is.1), f.has.1 ∙ ap Some is.1))
   | inr none ↦ inl (record {
@@ -114,13 +84,7 @@ fault_alike limits text i BadEvent f = elim (spelling_or_not f.has.0) [
     least = from_three limits (tokens text) i (λ many. let most : 3 ≤ 2 = f.least TooManyEvents many in omega arith);
   })
 ]
-fault_alike limits text i BadNumber f = inl (spelled_fault limits (tokens text) i BadNumber f (omega arith))
-fault_alike limits text i AlreadyEnded f = inl (spelled_fault limits (tokens text) i AlreadyEnded f (omega arith))
-fault_alike limits text i AlreadyBegun f = inl (spelled_fault limits (tokens text) i AlreadyBegun f (omega arith))
-fault_alike limits text i EmptyRange f = inl (spelled_fault limits (tokens text) i EmptyRange f (omega arith))
-fault_alike limits text i BadList f = inl (spelled_fault limits (tokens text) i BadList f (omega arith))
-fault_alike limits text i NotWritten f = inl (spelled_fault limits (tokens text) i NotWritten f (omega arith))
-fault_alike limits text i BadStart f = inl (spelled_fault limits (tokens text) i BadStart f (omega arith))
+fault_alike limits text i x f = inl (spelled_fault limits (tokens text) i x f (omega arith))
 
 refused_alike : (limits : Limits) (text : List ℕ) (fault : TextFault) → IsRefusalIn limits IsPlain text fault → IsRefusal limits text fault ⊎ ((i : ℕ) × (fault ≡ Refused i BadEvent) × NamesStart text i)
 refused_alike limits text NoMemory refusal = absurd refusal

@@ -15,14 +15,7 @@ reasons = BadEvent ∷ BadEvent ∷ TooManyEvents ∷ BadEvent ∷ BadNumber ∷
 
 numbered : (r : Reason) → slice_get reasons (reason_number r) ≡ Some r
 numbered TooManyEvents = refl
-numbered BadEvent = refl
-numbered BadNumber = refl
-numbered AlreadyEnded = refl
-numbered AlreadyBegun = refl
-numbered EmptyRange = refl
-numbered BadList = refl
-numbered NotWritten = refl
-numbered BadStart = refl
+numbered _ = refl
 
 -- the number tells the reason
 same_reason : (r s : Reason) → reason_number r ≡ reason_number s → r ≡ s
@@ -40,12 +33,11 @@ one_fault limits Form ts i j r s f g =
 
 pub one_refusal_in : (limits : Limits) (Form : Event → Type 0) (text : List ℕ) (f g : TextFault) → IsRefusalIn limits Form text f → IsRefusalIn limits Form text g → f ≡ g
 one_refusal_in limits Form text NoMemory g p q = absurd p
-one_refusal_in limits Form text TextTooLong NoMemory p q = absurd q
 one_refusal_in limits Form text TextTooLong TextTooLong p q = refl
 one_refusal_in limits Form text TextTooLong (Refused j s) p q = absurd (omega (arith, q.0))
-one_refusal_in limits Form text (Refused i r) NoMemory p q = absurd q
 one_refusal_in limits Form text (Refused i r) TextTooLong p q = absurd (omega (arith, p.0))
 one_refusal_in limits Form text (Refused i r) (Refused j s) p q = let e = one_fault limits Form (tokens text) i j r s p.1 q.1 in let a = e.0 in let b = e.1 in cc
+one_refusal_in limits Form text _ NoMemory p q = absurd q
 
 -- two refusals of one text are one
 pub one_refusal : (limits : Limits) (text : List ℕ) (f g : TextFault) → IsRefusal limits text f → IsRefusal limits text g → f ≡ g

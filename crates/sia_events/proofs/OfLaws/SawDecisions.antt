@@ -3,7 +3,7 @@ use Rattle.std.proofs.Common.{◌≡◌, ◌⊎◌, inl, inr, ℕ, zero, suc, �
 use Rattle.std.specs.Prelude.{Contains, slice_index_or}
 use Rattle.std.proofs.lemmas.Bool.{cases_lt, cases_eq}
 use Rattle.sia_events.specs.declared.event.Event.{Event}
-use Rattle.sia_events.specs.declared.event.Event.TheVariants.{Begin, Read, Range, Write, Commit, Abort}
+use Rattle.sia_events.specs.declared.event.Event.TheVariants.{Read, Range}
 use Rattle.sia_events.specs.Places.{at_place}
 use Rattle.sia_events.specs.Events.{actor, Saw}
 use Rattle.sia_events.specs.Reads.{SawAt}
@@ -52,7 +52,6 @@ IsListedAt listed k v = Contains listed (k, v) ⊎ (((u : ℕ) → ¬ Contains l
 
 -- whether an event saw a version of a key
 pub saw_or_not : (e : Event) (k v : ℕ) → Decided (Saw e k v)
-saw_or_not (Begin t start) k v = inr (λ s. s)
 saw_or_not (Read t key saw) k v = both (k ≡ key) (v ≡ saw) (cases_eq k key) (cases_eq v saw)
 saw_or_not (Range t lo hi listed) k v = of_three (at_most_or_not lo k) (at_most_or_not k hi) (listed_at (contains_or_not listed (k, v)) (listed_or_not listed k) (cases_eq v 0))
   where
@@ -67,9 +66,7 @@ saw_or_not (Range t lo hi listed) k v = of_three (at_most_or_not lo k) (at_most_
     of_three (inl a) (inl b) (inr c) = inr (λ s. c s.2)
     of_three (inl a) (inr b) c = inr (λ s. b s.1)
     of_three (inr a) b c = inr (λ s. a s.0)
-saw_or_not (Write t key) k v = inr (λ s. s)
-saw_or_not (Commit t) k v = inr (λ s. s)
-saw_or_not (Abort t) k v = inr (λ s. s)
+saw_or_not _ k v = inr (λ s. s)
 
 -- whether a transaction saw a version of a key at a place
 pub saw_at_or_not : (h : List Event) (p t k v : ℕ) → Decided (SawAt h p t k v)

@@ -1,7 +1,7 @@
 -- What a read of a well-formed history saw was written before it.
 use Rattle.std.proofs.Common.{◌≢◌, ℕ, List, subst}
 use Rattle.sia_events.specs.declared.event.Event.{Event}
-use Rattle.sia_events.specs.declared.event.Event.TheVariants.{Begin, Read, Range, Write, Commit, Abort}
+use Rattle.sia_events.specs.declared.event.Event.TheVariants.{Commit, Abort}
 use Rattle.sia_events.specs.Events.{actor}
 use Rattle.sia_events.specs.Refusals.{IsTxn, IsInRange, IsWellFormed}
 use Rattle.sia_events.specs.Transactions.{ActsAt, IsCommitted, WroteBefore}
@@ -18,12 +18,9 @@ pub saw_writer : (h : List Event) → IsWellFormed h → (p t k v : ℕ) → Saw
 saw_writer h wf p t k v saw other done = let w = saw_written h wf p t k v saw other in ((w.0, w.2), done)
 
 actor_in_range : (e : Event) → IsInRange e → IsTxn (actor e)
-actor_in_range (Begin t start) r = r.0
-actor_in_range (Read t k v) r = r.0
-actor_in_range (Range t lo hi listed) r = r.0
-actor_in_range (Write t k) r = r.0
 actor_in_range (Commit t) r = r
 actor_in_range (Abort t) r = r
+actor_in_range _ r = r.0
 
 -- what has an event is a transaction by its number
 pub actor_is_txn : (h : List Event) → IsWellFormed h → (t p : ℕ) → ActsAt h t p → IsTxn t

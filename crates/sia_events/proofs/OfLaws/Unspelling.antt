@@ -1,17 +1,15 @@
 -- A spelling read back: whether bytes spell an event can be told.
-use Rattle.std.proofs.Common.{◌≡◌, ◌≢◌, ◌⊎◌, inl, inr, ℕ, ◌+◌, ◌-◌, ◌*◌, ◌≤◌, Bool, true, false, cond, List, [], ◌∷◌, ◌++◌, Some, None, refl, ap, sym, ◌∙◌, arith}
-use Rattle.std.specs.Prelude.{fold, ◌==◌, ◌&&◌, nat_lt}
+use Rattle.std.proofs.Common.{◌≡◌, ◌≢◌, ◌⊎◌, inl, inr, ℕ, ◌+◌, ◌-◌, ◌*◌, Bool, true, false, cond, List, [], ◌∷◌, ◌++◌, Some, None, refl, ap, sym, ◌∙◌}
+use Rattle.std.specs.Prelude.{fold, ◌==◌}
 use Rattle.std.proofs.lemmas.Bool.{cases_eq}
-use Rattle.std.proofs.lemmas.Bool.Decides.{nat_tests}
 use Rattle.sia_events.specs.declared.event.Event.{Event}
 use Rattle.sia_events.specs.declared.event.Event.TheVariants.{Begin, Read, Range, Write, Commit, Abort}
 use Rattle.sia_events.specs.Text.{numeral, spell}
+use Rattle.sia_events.specs.Parsing.{is_digit}
 use Rattle.sia_events.proofs.Shared.Decisions.{same_list}
-use Rattle.sia_events.proofs.Shared.Numerals.{IsDigit, AreDigits, numeral-digits, value_of-numeral}
+use Rattle.sia_events.proofs.Shared.Numerals.{AreDigits, numeral-digits, value_of-numeral}
 use Rattle.sia_events.proofs.Shared.Spelling.{pairs_text, list_text, event_text, regrouped}
-
-abbrev is_digit : ℕ → Bool
-is_digit c = nat_lt 47 c && nat_lt c 58
+use Rattle.sia_events.proofs.Shared.NumberLaws.{digit_passes}
 
 -- the numbers between bytes that are no digits, the first of which goes on from v. No digits are 0
 abbrev numbers_from : ℕ → List ℕ → List ℕ
@@ -28,12 +26,9 @@ numbers_by v c cs b = elim b [
   | false ↦ v ∷ numbers_from 0 cs
 ]
 
-digit_is : (c : ℕ) → IsDigit c → is_digit c ≡ true
-digit_is c d = let low : 48 ≤ c = d.0 in let high : c ≤ 57 = d.1 in grind (arith, nat_tests)
-
 digits_read : (v : ℕ) (ds x : List ℕ) → AreDigits ds → numbers_from v (ds ++ x) ≡ numbers_from (fold (λ v c. 10 * v + (c - 48)) v ds) x
 digits_read v [] x d = refl
-digits_read v (c ∷ ds) x d = ap (numbers_by v c (ds ++ x)) (digit_is c d.0) ∙ digits_read (10 * v + (c - 48)) ds x d.1
+digits_read v (c ∷ ds) x d = ap (numbers_by v c (ds ++ x)) (digit_passes c d.0) ∙ digits_read (10 * v + (c - 48)) ds x d.1
 
 -- a numeral is read as its number
 numeral_read : (n : ℕ) (x : List ℕ) → numbers_from 0 (numeral n ++ x) ≡ numbers_from n x

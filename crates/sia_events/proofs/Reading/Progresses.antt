@@ -11,10 +11,11 @@ use Rattle.sia_events.specs.Text.{spell, is_separator, tokens, StandsFor}
 use Rattle.sia_events.specs.Refusals.{HasReason, IsFirstFault, IsRefusal, IsAccepted, IsWellFormed}
 use Rattle.sia_events.specs.Streaming.{IsCutAtLastSeparator, Progress, StandsForRead}
 use Rattle.sia_events.specs.Judging.{JudgedAll, StopsAt, as_token, HasText}
-use Rattle.sia_events.proofs.Shared.Cuts.{some_cut, cut_then, tokens_then, tokens_cut}
+use Rattle.sia_events.proofs.Shared.Cuts.{some_cut, cut_then, tokens_cut}
 use Rattle.sia_events.proofs.JudgedTexts.Judged.{JudgedAll-append}
 use Rattle.sia_events.proofs.Shared.Clean.{IsClean, clean_none, judged_clean, clean_accepted, read_as}
 use Rattle.sia_events.proofs.Shared.FirstFaults.{clean_no_reason, first_fault_kept, stops_first}
+use Rattle.sia_events.proofs.JudgedTexts.Tokens.{tokens-append}
 
 -- what holds under limits that are a reader's own
 pub by_own : (P Q : Limits → Type 0) (own limits : Limits) → own ≡ limits → (P own → Q own) → P limits → Q limits
@@ -50,7 +51,7 @@ module _ (limits : Limits) (text piece : List ℕ) (count more : ℕ) (counts : 
         let same : unfinished ≡ j.1 = j.4 refl in
         let here : IsCutAtLastSeparator (j.1 ++ piece) closed left = subst (λ (u : List ℕ). IsCutAtLastSeparator (u ++ piece) closed left) same cut in
         let read = judged_clean limits events (tokens closed) all clean fine in
-        let spelled : tokens (j.0 ++ closed) ≡ map spell all = tokens_then j.0 closed j.2.closed_ends ∙ ap (λ (ts : List (List ℕ)). ts ++ tokens closed) j.3.1 ∙ read.spelled in
+        let spelled : tokens (j.0 ++ closed) ≡ map spell all = tokens-append j.0 closed j.2.closed_ends ∙ ap (λ (ts : List (List ℕ)). ts ++ tokens closed) j.3.1 ∙ read.spelled in
         (j.0 ++ closed, left, cut_then text j.0 j.1 piece closed left j.2 here, (subst (λ ts. (i : ℕ) (r : Reason) → ¬ HasReason limits ts i r) (sym spelled) (clean_no_reason limits all read.clean), spelled), λ none. refl);
   }
 
@@ -66,7 +67,7 @@ module _ (limits : Limits) (text piece : List ℕ) (count more : ℕ) (counts : 
         let j = stands.judged (within text piece limits.bytes short) in
         let same : unfinished ≡ j.1 = j.4 refl in
         let here : IsCutAtLastSeparator (j.1 ++ piece) closed left = subst (λ (u : List ℕ). IsCutAtLastSeparator (u ++ piece) closed left) same cut in
-        let all_tokens : map spell events ++ tokens closed ≡ tokens (j.0 ++ closed) = sym (tokens_then j.0 closed j.2.closed_ends ∙ ap (λ (ts : List (List ℕ)). ts ++ tokens closed) j.3.1) in
+        let all_tokens : map spell events ++ tokens closed ≡ tokens (j.0 ++ closed) = sym (tokens-append j.0 closed j.2.closed_ends ∙ ap (λ (ts : List (List ℕ)). ts ++ tokens closed) j.3.1) in
         (j.0 ++ closed, left, cut_then text j.0 j.1 piece closed left j.2 here, subst (λ ts. IsFirstFault limits ts (suc (length all)) r) all_tokens (stops_first limits events (tokens closed) all r clean stops), λ none. absurd cc);
   }
 
@@ -80,7 +81,7 @@ module _ (limits : Limits) (text piece : List ℕ) (count more : ℕ) (counts : 
     judged = λ short.
         let j = stands.judged (within text piece limits.bytes short) in
         let h = some_cut (j.1 ++ piece) in
-        let all_tokens : tokens j.0 ++ tokens h.0 ≡ tokens (j.0 ++ h.0) = sym (tokens_then j.0 h.0 j.2.closed_ends) in
+        let all_tokens : tokens j.0 ++ tokens h.0 ≡ tokens (j.0 ++ h.0) = sym (tokens-append j.0 h.0 j.2.closed_ends) in
         (j.0 ++ h.0, h.1, cut_then text j.0 j.1 piece h.0 h.1 j.2 h.2, subst (λ ts. IsFirstFault limits ts i r) all_tokens (first_fault_kept limits (tokens j.0) (tokens h.0) i r j.3), λ none. absurd cc);
   }
 
@@ -138,7 +139,7 @@ text_more limits count more events all unfinished piece closed left counts h cut
   closed = h.closed ++ closed;
   counted = (let c = h.counted in omega (arith, length-append h.text piece));
   cut = cut_then h.text h.closed unfinished piece closed left h.cut cut;
-  fine = subst (λ ts. JudgedAll limits [] ts all) (sym (tokens_then h.closed closed h.cut.closed_ends)) (JudgedAll-append limits [] events all (tokens h.closed) (tokens closed) h.fine fine);
+  fine = subst (λ ts. JudgedAll limits [] ts all) (sym (tokens-append h.closed closed h.cut.closed_ends)) (JudgedAll-append limits [] events all (tokens h.closed) (tokens closed) h.fine fine);
 }
 
 pub text_history : (limits : Limits) (count : ℕ) (events all : List Event) (unfinished : List ℕ) → AreWithin limits greatest → HasText limits count events unfinished → count ≤ limits.bytes → JudgedAll limits events (as_token unfinished) all → IsWellFormed all

@@ -54,11 +54,7 @@ IsToken (c ∷ cs) = HasNoSeparator (c ∷ cs)
 
 token_of_text : (e : Event) → IsToken (event_text e)
 token_of_text (Begin t start) = event_unbroken (Begin t start)
-token_of_text (Read t k v) = event_unbroken (Read t k v)
-token_of_text (Range t lo hi listed) = event_unbroken (Range t lo hi listed)
-token_of_text (Write t k) = event_unbroken (Write t k)
-token_of_text (Commit t) = event_unbroken (Commit t)
-token_of_text (Abort t) = event_unbroken (Abort t)
+token_of_text r = event_unbroken r
 
 pub spell_token : (e : Event) → IsToken (spell e)
 spell_token e = subst IsToken (sym (regrouped e)) (token_of_text e)

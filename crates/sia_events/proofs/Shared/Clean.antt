@@ -1,5 +1,5 @@
 -- The tokens of a text judged one after another: the events that come of them, of which none has a reason.
-use Rattle.std.proofs.Common.{◌≡◌, ◌≢◌, ◌⊎◌, inl, inr, ℕ, zero, suc, ◌-◌, ◌<◌, ◌≤◌, Bool, true, false, cond, List, [], ◌∷◌, ◌++◌, map, length, slice_get, Option, Some, None, Result, Ok, Err, refl, ap, sym, subst, ◌∙◌, arith}
+use Rattle.std.proofs.Common.{◌≡◌, ◌≢◌, inl, inr, ℕ, zero, suc, ◌-◌, ◌<◌, ◌≤◌, Bool, true, false, cond, List, [], ◌∷◌, ◌++◌, map, length, Option, Some, None, Result, Ok, Err, refl, ap, sym, subst, ◌∙◌, arith}
 use Rattle.std.specs.Prelude.{◌==◌}
 use Rattle.std.proofs.lemmas.Bool.Decides.{nat_tests}
 use Rattle.std.proofs.lemmas.List.{append-nil, length-append}
@@ -20,24 +20,10 @@ use Rattle.sia_events.proofs.Shared.Refusing.{IsFit, accepted_from}
 use Rattle.sia_events.proofs.Shared.EventCases.{token_cases}
 use Rattle.sia_events.proofs.Shared.Faults.{IsAmong}
 use Rattle.sia_events.proofs.Shared.Fits.{fits_from}
+use Rattle.std.proofs.lemmas.Option.{slice_get_within}
+use Rattle.sia_events.proofs.LogRows.RowsRead.{get_more, push_cases}
 
 -- ---- one more event
-
-pub index_within : (es : List Event) (j : ℕ) (f : Event) → slice_get es j ≡ Some f → j < length es
-index_within [] j f is = cc
-index_within (e ∷ es) zero f is = omega arith
-index_within (e ∷ es) (suc j) f is = let below = index_within es j f is in omega arith
-
-pub index_kept : (es more : List Event) (j : ℕ) (f : Event) → slice_get es j ≡ Some f → slice_get (es ++ more) j ≡ Some f
-index_kept [] more j f is = cc
-index_kept (e ∷ es) more zero f is = is
-index_kept (e ∷ es) more (suc j) f is = index_kept es more j f is
-
-pub index_push : (es : List Event) (e : Event) (j : ℕ) (f : Event) → slice_get (es ++ e ∷ []) j ≡ Some f → (slice_get es j ≡ Some f) ⊎ ((j ≡ length es) × (e ≡ f))
-index_push [] e zero f is = inr (refl, (let same : e ≡ f = cc in same))
-index_push [] e (suc j) f is = cc
-index_push (g ∷ es) e zero f is = inl is
-index_push (g ∷ es) e (suc j) f is = elim (index_push es e j f is) [ inl old ↦ inl old | inr new ↦ inr (ap suc new.0, new.1) ]
 
 -- what stood before place i, within the events, stands there still
 before_old : (es : List Event) (e : Event) (i : ℕ) (f : Event) → i ≤ length es → IsBefore (es ++ e ∷ []) i f → IsBefore es i f
@@ -45,14 +31,14 @@ before_old es e i f within b = at_index b.0 b.1 b.2
   where
     at_index : (j : ℕ) → j < i → at_place (es ++ e ∷ []) j ≡ Some f → IsBefore es i f
     at_index zero below is = absurd cc
-    at_index (suc j) below is = elim (index_push es e j f is) [ inl old ↦ (suc j, below, old) | inr new ↦ (let last = new.0 in absurd (omega arith)) ]
+    at_index (suc j) below is = elim (push_cases es e j f is) [ inl old ↦ (suc j, below, old) | inr new ↦ (let last = new.0 in absurd (omega arith)) ]
 
 before_new : (es : List Event) (e : Event) (i : ℕ) (f : Event) → IsBefore es i f → IsBefore (es ++ e ∷ []) i f
 before_new es e i f b = at_index b.0 b.1 b.2
   where
     at_index : (j : ℕ) → j < i → at_place es j ≡ Some f → IsBefore (es ++ e ∷ []) i f
     at_index zero below is = absurd cc
-    at_index (suc j) below is = (suc j, below, index_kept es (e ∷ []) j f is)
+    at_index (suc j) below is = (suc j, below, get_more es (e ∷ []) j f is)
 
 -- what stands before the last place is among the events before
 before_last : (es : List Event) (e f : Event) → IsBefore (es ++ e ∷ []) (suc (length es)) f → IsAmong es f
@@ -60,10 +46,10 @@ before_last es e f b = at_index b.0 b.1 b.2
   where
     at_index : (j : ℕ) → j < suc (length es) → at_place (es ++ e ∷ []) j ≡ Some f → IsAmong es f
     at_index zero below is = absurd cc
-    at_index (suc j) below is = elim (index_push es e j f is) [ inl old ↦ (j, old) | inr new ↦ (let last = new.0 in absurd (omega arith)) ]
+    at_index (suc j) below is = elim (push_cases es e j f is) [ inl old ↦ (j, old) | inr new ↦ (let last = new.0 in absurd (omega arith)) ]
 
 among_before : (es : List Event) (e f : Event) → IsAmong es f → IsBefore (es ++ e ∷ []) (suc (length es)) f
-among_before es e f a = (suc a.0, (let below = index_within es a.0 f a.1 in omega arith), index_kept es (e ∷ []) a.0 f a.1)
+among_before es e f a = (suc a.0, (let below = slice_get_within es a.0 f a.1 in omega arith), get_more es (e ∷ []) a.0 f a.1)
 
 fit_moved : (n : ℕ) (Earlier Before : Event → Type 0) → ((f : Event) → Before f → Earlier f) → ((f : Event) → Earlier f → Before f) → (e : Event) → IsFit n Earlier e → IsFit n Before e
 fit_moved n Earlier Before to from e fit = record {
@@ -97,16 +83,16 @@ clean_push limits es e clean few fit = record {
   where
     each : (i : ℕ) (f : Event) → at_place (es ++ e ∷ []) i ≡ Some f → IsFit (i - 1) (IsBefore (es ++ e ∷ []) i) f
     each zero f is = absurd cc
-    each (suc j) f is = elim (index_push es e j f is) [
+    each (suc j) f is = elim (push_cases es e j f is) [
       | inl old ↦
-          let below = index_within es j f old in
+          let below = slice_get_within es j f old in
           fit_moved (suc j - 1) (IsBefore es (suc j)) (IsBefore (es ++ e ∷ []) (suc j)) (λ g. before_old es e (suc j) g (omega arith)) (before_new es e (suc j)) f (clean.each (suc j) f old)
       | inr new ↦
           let last : length es ≡ j = sym new.0 in
           let here : IsFit (length es) (IsBefore (es ++ e ∷ []) (suc (length es))) e = fit_moved (length es) (IsAmong es) (IsBefore (es ++ e ∷ []) (suc (length es))) (before_last es e) (among_before es e) e fit in
           let there : IsFit j (IsBefore (es ++ e ∷ []) (suc j)) e = subst (λ n. IsFit n (IsBefore (es ++ e ∷ []) (suc n)) e) last here in
           let same_count : j ≡ suc j - 1 = omega arith in
-          subst (λ n. IsFit n (IsBefore (es ++ e ∷ []) (suc j)) f) same_count (subst (λ g. IsFit j (IsBefore (es ++ e ∷ []) (suc j)) g) new.1 there)
+          subst (λ n. IsFit n (IsBefore (es ++ e ∷ []) (suc j)) f) same_count (subst (λ g. IsFit j (IsBefore (es ++ e ∷ []) (suc j)) g) (sym new.1) there)
     ]
 
 -- ---- one more token

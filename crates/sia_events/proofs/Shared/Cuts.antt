@@ -58,9 +58,6 @@ cut_then text closed rest piece more left a b = record {
     ends (inl none) = subst IsClosed (sym (ap (λ (xs : List ℕ). closed ++ xs) none ∙ append-nil closed)) a.closed_ends
     ends (inr h) = inr (closed ++ h.0, h.1, ap (λ (xs : List ℕ). closed ++ xs) h.2 ∙ sym (append_assoc closed h.0 (h.1 ∷ [])), h.3)
 
-pub tokens_then : (closed more : List ℕ) → IsClosed closed → tokens (closed ++ more) ≡ tokens closed ++ tokens more
-tokens_then closed more ends = tokens-append closed more ends
-
 -- where a token is refused, some text follows it
 pub stops_in : (limits : Limits) (events middle all : List Event) (text closed token after : List ℕ) (s : ℕ) (r : Reason) → text ≡ closed ++ (token ++ s ∷ after) → IsClosed closed → HasNoSeparator token → is_separator s ≡ true
     → JudgedAll limits events (tokens closed) middle → StopsAt limits middle (as_token token) all r → HaltsIn limits (refusals.Bad r) events text all

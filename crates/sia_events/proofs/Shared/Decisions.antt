@@ -91,7 +91,6 @@ pub same_event : (e f : Event) → Decided (e ≡ f)
 same_event (Begin t a) (Begin u b) =
     decided_alike ((t ≡ u) × (a ≡ b)) (Begin t a ≡ Begin u b) (λ s i. Begin (s.0 i) (s.1 i)) (λ e. ((let p : t ≡ u = cc in p), (let q : a ≡ b = cc in q)))
     (both (t ≡ u) (a ≡ b) (cases_eq t u) (same_option cases_eq a b))
-same_event (Begin t a) f = inr (λ e. cc)
 same_event (Read t k v) (Read u j w) = elim (cases_eq t u) [
   | inl a ↦ elim (cases_eq k j) [
     | inl b ↦ elim (cases_eq v w) [
@@ -102,7 +101,6 @@ same_event (Read t k v) (Read u j w) = elim (cases_eq t u) [
   ]
   | inr n ↦ inr (λ e. n (let p : t ≡ u = cc in p))
 ]
-same_event (Read t k v) f = inr (λ e. cc)
 same_event (Range t lo hi listed) (Range u low high others) = elim (both (t ≡ u) (lo ≡ low) (cases_eq t u) (cases_eq lo low)) [
   | inl a ↦ elim (both (hi ≡ high) (listed ≡ others) (cases_eq hi high) (same_list same_pair listed others)) [
     | inl b ↦ inl (λ i. Range (a.0 i) (a.1 i) (b.0 i) (b.1 i))
@@ -110,13 +108,10 @@ same_event (Range t lo hi listed) (Range u low high others) = elim (both (t ≡ 
   ]
   | inr n ↦ inr (λ e. n ((let p : t ≡ u = cc in p), (let q : lo ≡ low = cc in q)))
 ]
-same_event (Range t lo hi listed) f = inr (λ e. cc)
 same_event (Write t k) (Write u j) = elim (both (t ≡ u) (k ≡ j) (cases_eq t u) (cases_eq k j)) [
   | inl a ↦ inl (λ i. Write (a.0 i) (a.1 i))
   | inr n ↦ inr (λ e. n ((let p : t ≡ u = cc in p), (let q : k ≡ j = cc in q)))
 ]
-same_event (Write t k) f = inr (λ e. cc)
 same_event (Commit t) (Commit u) = elim (cases_eq t u) [ inl a ↦ inl (ap Commit a) | inr n ↦ inr (λ e. n (let p : t ≡ u = cc in p)) ]
-same_event (Commit t) f = inr (λ e. cc)
 same_event (Abort t) (Abort u) = elim (cases_eq t u) [ inl a ↦ inl (ap Abort a) | inr n ↦ inr (λ e. n (let p : t ≡ u = cc in p)) ]
-same_event (Abort t) f = inr (λ e. cc)
+same_event _ f = inr (λ e. cc)

@@ -23,7 +23,7 @@ use Rattle.sia_events.specs.Known.{acts, ends, writes, fault_of}
 use Rattle.sia_events.specs.Numbering.{Names, keys_of, ranges_of, mark, range_at, txn_at, key_at, version_at, pair_at, IsPair, names_of, IsSeen, txns_of, writes_of, entered, same_number, same_pair, event_of, IsWithin, IsMarked, keys_in, writes_in, ranges_in}
 use Rattle.sia_events.specs.LogTables.{range_of, names_but_ranges, txn_names, write_names, names_in, events_of, AreSound, AreTables, AreOnce, IsWriteRow, IsRangeRow, Lives}
 use Rattle.sia_events.specs.Drafts.{AreSeen, AreFound, Knows, Acts, IsNew, new_txn, SameButTxns}
-use Rattle.sia_events.proofs.LogRows.Distinct.{pairs_tell, new_none, there_some, entered_new, entered_there, numbered_acts, numbered_writes, names_push, push_there}
+use Rattle.sia_events.proofs.LogRows.Distinct.{pairs_tell, new_none, there_some, entered_new, entered_there, numbered_acts, numbered_writes, names_push, four}
 use Rattle.sia_events.specs.declared.event.Event.TheVariants.{Begin, Read, Range, Write, Commit, Abort}
 use Rattle.sia_events.specs.declared.log.TxnEnd.TheVariants.{Open}
 use Rattle.sia_events.specs.Numbering.{Ends}
@@ -34,7 +34,6 @@ use Rattle.std.specs.Prelude.{⊤, ◌&&◌, nat_lt, unwrap_or, Ok, Err, if◌th
 use Rattle.std.proofs.Math.Seq.{map-set_same}
 use Rattle.sia_events.specs.Finding.{Finds}
 use Rattle.sia_events.specs.OwnWrites.{Tracks, IsNoneOf, new_write, write_code}
-use Rattle.sia_events.proofs.LogRows.OwnWrites.{push_cases, set_cases}
 use Rattle.sia_events.specs.declared.fault.Reason.{Reason}
 use Rattle.sia_events.specs.declared.fault.Reason.TheVariants.{AlreadyEnded, AlreadyBegun, BadStart, EmptyRange, BadList, NotWritten}
 use Rattle.sia_events.specs.declared.fault.Refusal.{Refusal}
@@ -45,6 +44,7 @@ use Rattle.std.proofs.Math.Bool.{or-true}
 use Rattle.sia_events.proofs.Shared.Faults.{IsAmong, any_among, among_any, ends_is, same_true, true_false}
 use Rattle.sia_events.proofs.LogRows.Lived.{to_get, all_set, lives_more, lives_new, lives_going, lives_ended, start_more, starts_new, other_false}
 use Rattle.sia_events.proofs.LogRows.Logs.{IsFront, front_get, seen_more, front_same, front_entered, Grows, events_same, extends, all_more, few_writes, marked_more, pushed_sound, grows_step, front_step, writes_kept, ranges_kept, pair_grown, range_grown, pair_same, map_same}
+use Rattle.sia_events.proofs.LogRows.RowsRead.{push_cases, set_cases, last_there}
 
 pub found_of : (d : Draft) → Knows d → AreFound d
 unfolding Knows
@@ -183,7 +183,7 @@ found_more d e found g txns keys writes long kept same = record {
 pub key_found : (d e : Draft) (k : ℕ) → AreFound d → e.tables.keys.items ≡ d.tables.keys.items ++ k ∷ [] → AreSound e.tables × Grows d.tables e.tables → Finds e.txns (txn_names e.tables.txns.items) → Finds e.keys (map (λ (x : SeenRow). x.key) e.last_seen.items) → Tracks e.writes e.tables.writes.items → length e.tables.txns.items ≤ length e.writes.writers.items → e.last_seen.items ≡ d.last_seen.items ++ record { key = k; version = 0; write = 0 } ∷ [] → AreFound e
 key_found d e k found pushed g txns keys writes long more =
     let seen = still_seen d.tables e.tables d.last_seen.items found.sound g.0 g.1 found.seen in
-    let is : slice_get e.tables.keys.items (length d.last_seen.items) ≡ Some k = rw (pushed) (push_there d.tables.keys.items k (length d.last_seen.items) (sym (length-map d.last_seen.items (λ (x : SeenRow). x.key)) ∙ ap length found.level)) in
+    let is : slice_get e.tables.keys.items (length d.last_seen.items) ≡ Some k = rw (pushed) (last_there d.tables.keys.items k (length d.last_seen.items) (sym (length-map d.last_seen.items (λ (x : SeenRow). x.key)) ∙ ap length found.level)) in
     record {
       sound = g.0;
       txns = txns;
@@ -238,9 +238,6 @@ settled d e ev r knows found grows pushed names spells lives marked =
 
 abbrev all_four : List ℕ → List ℕ → List (ℕ × ℕ) → List (ℕ × ℕ × List (ℕ × ℕ)) → Names
 all_four txns keys writes ranges = record { txns = txns; keys = keys; writes = writes; ranges = ranges }
-
-four : {a a' b b' : List ℕ} {c c' : List (ℕ × ℕ)} {d d' : List (ℕ × ℕ × List (ℕ × ℕ))} → a ≡ a' → b ≡ b' → c ≡ c' → d ≡ d' → all_four a b c d ≡ all_four a' b' c' d'
-four p q r s = λ i. all_four (p i) (q i) (r i) (s i)
 
 -- what one event more makes of the numbers
 pub names_step : (t u : Tables) (ev : Event) → AreTables t → txn_names u.txns.items ≡ entered same_number (txn_names t.txns.items) (actor ev) → u.keys.items ≡ fold (entered same_number) t.keys.items (keys_in ev) → (names_in u).writes ≡ fold (entered same_pair) (names_in t).writes (writes_in ev) → (names_in u).ranges ≡ (names_in t).ranges ++ ranges_in ev → names_in u ≡ names_of (events_of t ++ ev ∷ [])
@@ -453,10 +450,6 @@ pub write_there : (names : Names) (p : ℕ × ℕ) (w : ℕ) → w ≢ 0 → IsW
 write_there names p zero some is = absurd (some refl)
 write_there names p (suc w) some is = pair_there names.writes w p is
 
-pair_push : (xs : List (ℕ × ℕ)) (p : ℕ × ℕ) (n : ℕ) → n ≡ length xs → slice_get (xs ++ p ∷ []) n ≡ Some p
-pair_push [] p n is = rw (is) refl
-pair_push (q ∷ xs) p n is = rw (is) (pair_push xs p (length xs) refl)
-
 write_fine : (h : List Event) (n t k : ℕ) → own_fault h n (Write t k) ≡ None
 unfolding own_fault
 write_fine h n t k = refl
@@ -504,7 +497,7 @@ new_has_write t u d kd x k w same rows_are is_txn is_key number none =
     record {
       same = same;
       above = omega arith;
-      is = rw (names) (pair_push (names_in t).writes (k, x) (w - 1) (omega arith));
+      is = rw (names) (last_there (names_in t).writes (k, x) (w - 1) (omega arith));
       more = new_write d kd ∷ [];
       rows = rows_are;
       names = names ∙ rw (none) refl;

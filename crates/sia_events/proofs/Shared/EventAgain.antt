@@ -8,7 +8,7 @@ use Rattle.sia_events.specs.declared.fault.Reason.{Reason}
 use Rattle.sia_events.specs.Parsing.{◌>>=◌, narrow, number_at, after_byte, ended, key_of, version_of, txn_of, begin_at, write_at, item_at, pair_at, joined, one_pair, pairs_within, pairs_at, list_at, list_of, range_at, read_at, commit_at, abort_at, event_at}
 use Rattle.sia_events.proofs.Shared.Numerals.{IsDigit}
 use Rattle.sia_events.proofs.Shared.NumberLaws.{number_again}
-use Rattle.sia_events.proofs.Shared.Spelling.{pairs_text, list_text, event_text, regrouped}
+use Rattle.sia_events.proofs.Shared.Spelling.{pairs_text, list_text, event_text, regrouped, open_bracket, bracket, colon, comma, dot, at_sign}
 use Rattle.sia_events.proofs.Shared.EventLaws.{narrow_pair, narrow_list}
 
 -- the event with each number in its range, or the reason that one isn't
@@ -25,26 +25,8 @@ no_digit : (c : ℕ) → (c < 48) ⊎ (57 < c) → ¬ IsDigit c
 no_digit c (inl below) d = let low : 48 ≤ c = d.0 in omega arith
 no_digit c (inr above) d = let high : c ≤ 57 = d.1 in omega arith
 
-bracket : ¬ IsDigit 91
-bracket = no_digit 91 (inr (omega arith))
-
-closing : ¬ IsDigit 93
-closing = no_digit 93 (inr (omega arith))
-
-colon : ¬ IsDigit 58
-colon = no_digit 58 (inr (omega arith))
-
-comma : ¬ IsDigit 44
-comma = no_digit 44 (inl (omega arith))
-
-dot : ¬ IsDigit 46
-dot = no_digit 46 (inl (omega arith))
-
 semicolon : ¬ IsDigit 59
 semicolon = no_digit 59 (inr (omega arith))
-
-at_sign : ¬ IsDigit 64
-at_sign = no_digit 64 (inr (omega arith))
 
 pair_again : (p : ℕ × ℕ) (c : ℕ) (rest : List ℕ) → ¬ IsDigit c → pair_at (numeral p.0 ++ (58 ∷ (numeral p.1 ++ (c ∷ rest)))) ≡ Ok (narrow_pair p, c ∷ rest)
 unfolding pair_at after_byte
@@ -53,7 +35,7 @@ pair_again p c rest stops = rw (number_again p.0 (58 ∷ (numeral p.1 ++ (c ∷ 
 pairs_again : (p : ℕ × ℕ) (ps : List (ℕ × ℕ)) (rest : List ℕ) (m : ℕ) → length ps < m → pairs_within m (pairs_text p ps (93 ∷ rest)) ≡ Ok (narrow_list (p ∷ ps), 93 ∷ rest)
 unfolding pairs_within
 pairs_again p ps rest zero enough = absurd (omega arith)
-pairs_again p [] rest (suc m) enough = rw (pair_again p 93 rest closing) (ap (λ qs. Ok (qs, 93 ∷ rest)) (alone (narrow_pair p)))
+pairs_again p [] rest (suc m) enough = rw (pair_again p 93 rest bracket) (ap (λ qs. Ok (qs, 93 ∷ rest)) (alone (narrow_pair p)))
   where
     alone : (o : Option (ℕ × ℕ)) → one_pair o ≡ joined (one_pair o) (Some [])
     alone None = refl
@@ -67,23 +49,23 @@ pairs_long p (q ∷ ps) rest =
     let h = pairs_long q ps rest in
     omega (arith, length-append (numeral p.0) (58 ∷ (numeral p.1 ++ (44 ∷ pairs_text q ps rest))), length-append (numeral p.1) (44 ∷ pairs_text q ps rest))
 
--- what follows an upper end, up to the closing bracket
+-- what follows an upper end, up to the bracket open_bracket
 list_again : (listed : List (ℕ × ℕ)) → list_at (list_text listed) ≡ Ok (narrow_list listed, 93 ∷ [])
 unfolding list_at pairs_at
 list_again [] = refl
 list_again (p ∷ ps) = pairs_again p ps [] (length (pairs_text p ps (93 ∷ [])) + 1) (let h = pairs_long p ps (93 ∷ []) in omega arith)
 
 high_again : (hi : ℕ) (listed : List (ℕ × ℕ)) → number_at (numeral hi ++ list_text listed) ≡ Ok (narrow hi, list_text listed)
-high_again hi [] = number_again hi (93 ∷ []) closing
+high_again hi [] = number_again hi (93 ∷ []) bracket
 high_again hi (p ∷ ps) = number_again hi (59 ∷ pairs_text p ps (93 ∷ [])) semicolon
 
 text_again : (e : Event) → event_at (event_text e) ≡ in_ranges e
 unfolding event_at begin_at write_at item_at range_at read_at commit_at abort_at after_byte ended
 text_again (Begin t None) = rw (number_again t [] tt) refl
 text_again (Begin t (Some n)) = rw (number_again t (64 ∷ (numeral n ++ [])) at_sign, number_again n [] tt) refl
-text_again (Read t k v) = rw (number_again t (91 ∷ (numeral k ++ (58 ∷ (numeral v ++ (93 ∷ []))))) bracket, number_again k (58 ∷ (numeral v ++ (93 ∷ []))) colon, number_again v (93 ∷ []) closing) refl
-text_again (Range t lo hi listed) = rw (number_again t (91 ∷ (numeral lo ++ (46 ∷ 46 ∷ (numeral hi ++ list_text listed)))) bracket, number_again lo (46 ∷ 46 ∷ (numeral hi ++ list_text listed)) dot, high_again hi listed, list_again listed) refl
-text_again (Write t k) = rw (number_again t (91 ∷ (numeral k ++ (93 ∷ []))) bracket, number_again k (93 ∷ []) closing) refl
+text_again (Read t k v) = rw (number_again t (91 ∷ (numeral k ++ (58 ∷ (numeral v ++ (93 ∷ []))))) open_bracket, number_again k (58 ∷ (numeral v ++ (93 ∷ []))) colon, number_again v (93 ∷ []) bracket) refl
+text_again (Range t lo hi listed) = rw (number_again t (91 ∷ (numeral lo ++ (46 ∷ 46 ∷ (numeral hi ++ list_text listed)))) open_bracket, number_again lo (46 ∷ 46 ∷ (numeral hi ++ list_text listed)) dot, high_again hi listed, list_again listed) refl
+text_again (Write t k) = rw (number_again t (91 ∷ (numeral k ++ (93 ∷ []))) open_bracket, number_again k (93 ∷ []) bracket) refl
 text_again (Commit t) = rw (number_again t [] tt) refl
 text_again (Abort t) = rw (number_again t [] tt) refl
 

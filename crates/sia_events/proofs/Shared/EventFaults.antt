@@ -3,7 +3,7 @@ use Rattle.std.proofs.Common.{◌≡◌, ◌⊎◌, inl, inr, ℕ, ◌<◌, ◌�
 use Rattle.std.specs.List.{list_any, list_all}
 use Rattle.std.proofs.lemmas.Bool.Decides.{nat_tests}
 use Rattle.sia_events.specs.declared.event.Event.{Event}
-use Rattle.sia_events.specs.declared.event.Event.TheVariants.{Begin, Read, Range, Write, Commit, Abort}
+use Rattle.sia_events.specs.declared.event.Event.TheVariants.{Begin, Read, Range}
 use Rattle.sia_events.specs.declared.fault.Reason.{Reason}
 use Rattle.sia_events.specs.declared.fault.Reason.TheVariants.{TooManyEvents, BadEvent, BadNumber, AlreadyEnded, AlreadyBegun, EmptyRange, BadList, NotWritten, BadStart}
 use Rattle.sia_events.specs.Events.{actor}
@@ -45,8 +45,6 @@ begin_least events n t (Some m) r fits open_still e = elim (found (list_any (act
 ]
   where
     least : list_any (acts t) events ≡ false → (s : Reason) → EventHas n (IsAmong events) (Begin t (Some m)) s → 10 ≤ reason_number s
-    least fresh TooManyEvents has = absurd has
-    least fresh BadEvent has = absurd has
     least fresh BadNumber has = absurd (has fits)
     least fresh AlreadyEnded has = (let low : 6 ≤ 5 = lower_reasons n events (Begin t (Some m)) fits open_still AlreadyEnded has in absurd (omega arith))
     least fresh AlreadyBegun has = absurd (none_acts events t fresh has.1 has.2 has.3)
@@ -54,6 +52,7 @@ begin_least events n t (Some m) r fits open_still e = elim (found (list_any (act
     least fresh BadList has = (let is = has.3 in cc)
     least fresh NotWritten has = absurd has.2
     least fresh BadStart has = omega arith
+    least fresh _ has = absurd has
 
 read_least : (events : List Event) (n t k v : ℕ) (r : Reason) → IsInRange (Read t k v) → list_any (ends t) events ≡ false → read_fault events k v ≡ Some r → IsLeast n events (Read t k v) r
 unfolding read_fault
@@ -63,8 +62,6 @@ read_least events n t k v r fits open_still e = elim (found_else (is_explained e
 ]
   where
     least : (s : Reason) → EventHas n (IsAmong events) (Read t k v) s → 9 ≤ reason_number s
-    least TooManyEvents has = absurd has
-    least BadEvent has = absurd has
     least BadNumber has = absurd (has fits)
     least AlreadyEnded has = (let low : 6 ≤ 5 = lower_reasons n events (Read t k v) fits open_still AlreadyEnded has in absurd (omega arith))
     least AlreadyBegun has = (let is = has.0.1 in cc)
@@ -72,6 +69,7 @@ read_least events n t k v r fits open_still e = elim (found_else (is_explained e
     least BadList has = (let is = has.3 in cc)
     least NotWritten has = omega arith
     least BadStart has = omega arith
+    least _ has = absurd has
 
 -- a range's reasons, from those that are told first
 module _ (events : List Event) (n t lo hi : ℕ) (listed : List (ℕ × ℕ)) (fits : IsInRange (Range t lo hi listed)) (open_still : list_any (ends t) events ≡ false) where
@@ -81,10 +79,7 @@ module _ (events : List Event) (n t lo hi : ℕ) (listed : List (ℕ × ℕ)) (f
   above BadNumber has = absurd (has fits)
   above AlreadyEnded has = (let low : 6 ≤ 5 = lower_reasons n events (Range t lo hi listed) fits open_still AlreadyEnded has in absurd (omega arith))
   above AlreadyBegun has = (let is = has.0.1 in cc)
-  above EmptyRange has = omega arith
-  above BadList has = omega arith
-  above NotWritten has = omega arith
-  above BadStart has = omega arith
+  above _ has = omega arith
 
   not_empty : nat_lt hi lo ≡ false → ¬ EventHas n (IsAmong events) (Range t lo hi listed) EmptyRange
   not_empty some has =
@@ -125,29 +120,24 @@ module _ (events : List Event) (n t lo hi : ℕ) (listed : List (ℕ × ℕ)) (f
       least_list some BadNumber has = absurd (has fits)
       least_list some AlreadyEnded has = (let low : 7 ≤ 5 = above AlreadyEnded has in absurd (omega arith))
       least_list some AlreadyBegun has = (let low : 7 ≤ 6 = above AlreadyBegun has in absurd (omega arith))
-      least_list some BadList has = omega arith
-      least_list some NotWritten has = omega arith
-      least_list some BadStart has = omega arith
+      least_list some _ has = omega arith
 
       least_written : nat_lt hi lo ≡ false → goes_up lo hi listed ≡ true → (s : Reason) → EventHas n (IsAmong events) (Range t lo hi listed) s → 9 ≤ reason_number s
       least_written some up EmptyRange has = absurd (not_empty some has)
       least_written some up BadList has = absurd (in_order up has)
-      least_written some up TooManyEvents has = absurd has
-      least_written some up BadEvent has = absurd has
       least_written some up BadNumber has = absurd (has fits)
       least_written some up AlreadyEnded has = (let low : 7 ≤ 5 = above AlreadyEnded has in absurd (omega arith))
       least_written some up AlreadyBegun has = (let low : 7 ≤ 6 = above AlreadyBegun has in absurd (omega arith))
       least_written some up NotWritten has = omega arith
       least_written some up BadStart has = omega arith
+      least_written some up _ has = absurd has
 
 own_least : (events : List Event) (n : ℕ) (e : Event) (r : Reason) → IsInRange e → list_any (ends (actor e)) events ≡ false → own_fault events n e ≡ Some r → IsLeast n events e r
 unfolding own_fault
 own_least events n (Begin t start) r fits open_still e = begin_least events n t start r fits open_still e
 own_least events n (Read t k v) r fits open_still e = read_least events n t k v r fits open_still e
 own_least events n (Range t lo hi listed) r fits open_still e = range_least events n t lo hi listed fits open_still r e
-own_least events n (Write t k) r fits open_still e = absurd (no_more r e)
-own_least events n (Commit t) r fits open_still e = absurd (no_more r e)
-own_least events n (Abort t) r fits open_still e = absurd (no_more r e)
+own_least events n _ r fits open_still e = absurd (no_more r e)
 
 ended_least : (events : List Event) (n : ℕ) (e : Event) → IsInRange e → list_any (ends (actor e)) events ≡ true → IsLeast n events e AlreadyEnded
 ended_least events n e fits p = record { has = has; least = least }
@@ -162,12 +152,7 @@ ended_least events n e fits p = record { has = has; least = least }
     least TooManyEvents h = absurd h
     least BadEvent h = absurd h
     least BadNumber h = absurd (h fits)
-    least AlreadyEnded h = omega arith
-    least AlreadyBegun h = omega arith
-    least EmptyRange h = omega arith
-    least BadList h = omega arith
-    least NotWritten h = omega arith
-    least BadStart h = omega arith
+    least _ h = omega arith
 
 -- what the tables find is the least reason
 pub fault_least : (events : List Event) (n : ℕ) (e : Event) (r : Reason) → IsInRange e → fault_of events n e ≡ Some r → IsLeast n events e r

@@ -4,12 +4,12 @@ use Rattle.std.specs.Prelude.{MatchOption, not, ◌&&◌, ◌==◌}
 use Rattle.std.specs.List.{list_any}
 use Rattle.std.proofs.lemmas.Bool.{or_parts, both_ways, eqb-true, eq-eqb, and_from}
 use Rattle.sia_events.specs.declared.event.Event.{Event}
-use Rattle.sia_events.specs.declared.event.Event.TheVariants.{Begin, Read, Range, Write, Commit, Abort}
+use Rattle.sia_events.specs.declared.event.Event.TheVariants.{Read, Range, Write, Commit, Abort}
 use Rattle.sia_events.specs.Places.{at_place}
 use Rattle.sia_events.specs.Events.{actor, named_start, Saw}
 use Rattle.sia_events.specs.Transactions.{IsFirstEvent, StartsAt, CommitsAt, IsCommitted, Wrote, WroteBefore}
 use Rattle.sia_events.specs.Reads.{SawAt}
-use Rattle.sia_events.proofs.Writing.WellFormed.{IsBefore}
+use Rattle.sia_events.proofs.Shared.Faults.{same_true}
 
 -- the event is one of t
 abbrev pub acts : ℕ → Event → Bool
@@ -88,10 +88,6 @@ module _ (test : Event → Bool) where
   nowhere h zero e none at pass = cc
   nowhere h (suc i) e none at pass = let less : i < 0 = below_index h 0 i e none at pass in omega arith
 
--- a number is equal to itself by the test too
-same : (t : ℕ) → (t == t) ≡ true
-same t = eq-eqb t t refl
-
 -- the other part of a test that fails
 other_part : (a b : Bool) → a ≡ true → ¬ ((a && not b) ≡ true) → b ≡ true
 other_part a true p n = refl
@@ -111,37 +107,30 @@ starts_named h t n s e at is none names = (suc n, e, first_at h t n e at is none
 
 -- a commit stands after the first n places, and up to place n, where no other place has it
 pub commits_after : (h : List Event) (t n c : ℕ) → list_any (commits t) (take n h) ≡ false → CommitsAt h t c → n < c
-commits_after h t n c none at = after_place (commits t) h n c (Commit t) none at (same t)
+commits_after h t n c none at = after_place (commits t) h n c (Commit t) none at (same_true t)
 
 pub commits_up_to : (h : List Event) (t n c : ℕ) → list_any (commits t) (drop n h) ≡ false → CommitsAt h t c → c ≤ n
-commits_up_to h t n c none at = up_to_place (commits t) h n c (Commit t) none at (same t)
-
--- what passes doesn't stand before a place, where no event before it passes
-pub not_before : (test : Event → Bool) (h : List Event) (n : ℕ) (e : Event) → list_any test (take n h) ≡ false → test e ≡ true → ¬ IsBefore h (suc n) e
-not_before test h n e none pass b =
-    let after : n < b.0 = after_place test h n b.0 e none b.2 pass in
-    let below : b.0 < suc n = b.1 in
-    omega arith
+commits_up_to h t n c none at = up_to_place (commits t) h n c (Commit t) none at (same_true t)
 
 pub not_committed : (h : List Event) (t : ℕ) → list_any (commits t) h ≡ false → ¬ IsCommitted h t
-not_committed h t none c = nowhere (commits t) h c.0 (Commit t) none c.1 (same t)
+not_committed h t none c = nowhere (commits t) h c.0 (Commit t) none c.1 (same_true t)
 
 pub not_wrote : (h : List Event) (t k : ℕ) → list_any (writes t k) h ≡ false → ¬ Wrote h t k
-not_wrote h t k none w = nowhere (writes t k) h w.0 (Write t k) none w.1 (and_from (t == t) (k == k) (same t) (same k))
+not_wrote h t k none w = nowhere (writes t k) h w.0 (Write t k) none w.1 (and_from (t == t) (k == k) (same_true t) (same_true k))
 
 pub not_wrote_before : (h : List Event) (t k n : ℕ) → list_any (writes t k) (take n h) ≡ false → ¬ WroteBefore h t k (suc n)
 not_wrote_before h t k n none w =
-    let after : n < w.0 = after_place (writes t k) h n w.0 (Write t k) none w.2 (and_from (t == t) (k == k) (same t) (same k)) in
+    let after : n < w.0 = after_place (writes t k) h n w.0 (Write t k) none w.2 (and_from (t == t) (k == k) (same_true t) (same_true k)) in
     let before : w.0 < suc n = w.1 in
     omega arith
 
 -- t alone wrote k
 pub one_writer : (h : List Event) (t k : ℕ) → list_any (others_write t k) h ≡ false → (u : ℕ) → Wrote h u k → u ≡ t
-one_writer h t k none u w = eqb-true u t (other_part (k == k) (u == t) (same k) (nowhere (others_write t k) h w.0 (Write u k) none w.1))
+one_writer h t k none u w = eqb-true u t (other_part (k == k) (u == t) (same_true k) (nowhere (others_write t k) h w.0 (Write u k) none w.1))
 
 -- t wrote k alone
 pub one_key_written : (h : List Event) (t k : ℕ) → list_any (writes_others t k) h ≡ false → (j : ℕ) → Wrote h t j → j ≡ k
-one_key_written h t k none j w = eqb-true j k (other_part (t == t) (j == k) (same t) (nowhere (writes_others t k) h w.0 (Write t j) none w.1))
+one_key_written h t k none j w = eqb-true j k (other_part (t == t) (j == k) (same_true t) (nowhere (writes_others t k) h w.0 (Write t j) none w.1))
 
 -- t alone read k
 pub one_reader : (h : List Event) (t k : ℕ) → list_any (others_read t k) h ≡ false → (p u v : ℕ) → SawAt h p u k v → u ≡ t
@@ -151,10 +140,7 @@ one_reader h t k none p u v saw = of_event saw.0 saw.1 saw.2 saw.3
     of_event (Read w j x) at is s =
         sym is ∙ eqb-true w t (other_part (j == k) (w == t) (eq-eqb j k (sym s.0)) (nowhere (others_read t k) h p (Read w j x) none at))
     of_event (Range w lo hi listed) at is s = absurd (nowhere (others_read t k) h p (Range w lo hi listed) none at refl)
-    of_event (Begin w start) at is s = absurd s
-    of_event (Write w j) at is s = absurd s
-    of_event (Commit w) at is s = absurd s
-    of_event (Abort w) at is s = absurd s
+    of_event _ at is s = absurd s
 
 -- t read k alone
 pub one_key_read : (h : List Event) (t k : ℕ) → list_any (reads_others t k) h ≡ false → (p j v : ℕ) → SawAt h p t j v → j ≡ k
@@ -164,7 +150,4 @@ one_key_read h t k none p j v saw = of_event saw.0 saw.1 saw.2 saw.3
     of_event (Read w i x) at is s =
         s.0 ∙ eqb-true i k (other_part (w == t) (i == k) (eq-eqb w t is) (nowhere (reads_others t k) h p (Read w i x) none at))
     of_event (Range w lo hi listed) at is s = absurd (nowhere (reads_others t k) h p (Range w lo hi listed) none at refl)
-    of_event (Begin w start) at is s = absurd s
-    of_event (Write w i) at is s = absurd s
-    of_event (Commit w) at is s = absurd s
-    of_event (Abort w) at is s = absurd s
+    of_event _ at is s = absurd s

@@ -4,13 +4,14 @@ use Rattle.std.specs.Prelude.{◌==◌, ◌&&◌, ◌||◌, not, map, Contains, 
 use Rattle.std.specs.List.{list_any, list_all, AllByRecursion}
 use Rattle.std.specs.List.Sorted.{IsStrictlyIncreasing}
 use Rattle.std.proofs.lemmas.List.Elements.{All-from_recursion}
-use Rattle.std.proofs.lemmas.Bool.{eqb-true}
+use Rattle.std.proofs.lemmas.Bool.{eqb-true, and_parts, not-true}
 use Rattle.std.proofs.lemmas.Bool.Decides.{nat_tests}
 use Rattle.sia_events.specs.declared.event.Event.{Event}
-use Rattle.sia_events.specs.declared.event.Event.TheVariants.{Begin, Read, Range, Write, Commit, Abort}
+use Rattle.sia_events.specs.declared.event.Event.TheVariants.{Write, Commit, Abort}
 use Rattle.sia_events.specs.declared.fault.Reason.{Reason}
 use Rattle.sia_events.specs.Refusals.{IsGoodList}
 use Rattle.sia_events.specs.Known.{ends, writes, is_explained, goes_up}
+use Rattle.std.proofs.Math.Bool.{or-true}
 
 -- the event is one of these
 abbrev pub IsAmong : List Event → Event → Type 0
@@ -24,17 +25,13 @@ any_among test (e ∷ events) p = by_test (λ q. any_among test events q) (test 
     by_test later true q p = (e, (0, refl), q)
     by_test later false q p = (let h = later p in (h.0, (suc h.1.0, h.1.1), h.2))
 
-or_true : (b : Bool) → (b || true) ≡ true
-or_true true = refl
-or_true false = refl
-
 pub among_any : (test : Event → Bool) (events : List Event) (e : Event) → IsAmong events e → test e ≡ true → list_any test events ≡ true
 among_any test events e a p = at_index events a.0 a.1
   where
     at_index : (es : List Event) (j : ℕ) → slice_get es j ≡ Some e → list_any test es ≡ true
     at_index [] j is = cc
     at_index (f ∷ es) zero is = (let same : f ≡ e = cc in rw (ap test same ∙ p) refl)
-    at_index (f ∷ es) (suc j) is = rw (at_index es j is) (or_true (test f))
+    at_index (f ∷ es) (suc j) is = rw (at_index es j is) (or-true (test f))
 
 -- ---- what the tests say
 
@@ -44,27 +41,15 @@ same_true n = grind (arith, nat_tests)
 pub ends_is : (t : ℕ) (e : Event) → ends t e ≡ true → (e ≡ Commit t) ⊎ (e ≡ Abort t)
 ends_is t (Commit u) p = inl (ap Commit (sym (eqb-true t u p)))
 ends_is t (Abort u) p = inr (ap Abort (sym (eqb-true t u p)))
-ends_is t (Begin u start) p = absurd cc
-ends_is t (Read u k v) p = absurd cc
-ends_is t (Range u lo hi listed) p = absurd cc
-ends_is t (Write u k) p = absurd cc
-
-both : (a b : Bool) → (a && b) ≡ true → (a ≡ true) × (b ≡ true)
-both true true p = (refl, refl)
-both true false p = absurd cc
-both false b p = absurd cc
+ends_is t _ p = absurd cc
 
 pub writes_is : (k v : ℕ) (e : Event) → writes (k, v) e ≡ true → e ≡ Write v k
 writes_is k v (Write u j) p =
-    let h = both (k == j) (v == u) p in
+    let h = and_parts (k == j) (v == u) p in
     let a = eqb-true k j h.0 in
     let b = eqb-true v u h.1 in
     λ i. Write (sym b i) (sym a i)
-writes_is k v (Begin u start) p = absurd cc
-writes_is k v (Read u j w) p = absurd cc
-writes_is k v (Range u lo hi listed) p = absurd cc
-writes_is k v (Commit u) p = absurd cc
-writes_is k v (Abort u) p = absurd cc
+writes_is k v _ p = absurd cc
 
 pub writes_same : (k v : ℕ) → writes (k, v) (Write v k) ≡ true
 writes_same k v = rw (same_true k, same_true v) refl
@@ -94,12 +79,8 @@ all_explained events listed p k v c other = at_index listed c.0 c.1 c.2 p
   where
     at_index : (ps : List (ℕ × ℕ)) (i : ℕ) → i < length ps → slice_index_or ps i (k, v) ≡ (k, v) → list_all (is_explained events) ps ≡ true → IsAmong events (Write v k)
     at_index [] i below e q = absurd (omega arith)
-    at_index (p ∷ ps) zero below e q = (let h = both (is_explained events p) (list_all (is_explained events) ps) q in explained events k v (subst (λ r. is_explained events r ≡ true) e h.0) other)
-    at_index (p ∷ ps) (suc i) below e q = (let h = both (is_explained events p) (list_all (is_explained events) ps) q in at_index ps i (omega arith) e h.1)
-
-not_true : (b : Bool) → not b ≡ true → b ≡ false
-not_true true e = absurd cc
-not_true false e = refl
+    at_index (p ∷ ps) zero below e q = (let h = and_parts (is_explained events p) (list_all (is_explained events) ps) q in explained events k v (subst (λ r. is_explained events r ≡ true) e h.0) other)
+    at_index (p ∷ ps) (suc i) below e q = (let h = and_parts (is_explained events p) (list_all (is_explained events) ps) q in at_index ps i (omega arith) e h.1)
 
 increasing_cons : (x : ℕ) (xs : List ℕ) → (0 < length xs → x < slice_index xs 0) → IsStrictlyIncreasing xs → IsStrictlyIncreasing (x ∷ xs)
 increasing_cons x xs first more zero below = first (omega arith)
@@ -119,10 +100,10 @@ from_lower least more hi (p ∷ ps) le a = (((let low : more ≤ p.0 = a.0.0 in 
 goes_up_is : (least hi : ℕ) (ps : List (ℕ × ℕ)) → goes_up least hi ps ≡ true → GoesUp least hi ps
 goes_up_is least hi [] e = record { within = tt; increasing = λ k below. absurd (omega arith) }
 goes_up_is least hi (p ∷ ps) e =
-    let a = both (not (nat_lt p.0 least)) (not (nat_lt hi p.0) && goes_up (p.0 + 1) hi ps) e in
-    let b = both (not (nat_lt hi p.0)) (goes_up (p.0 + 1) hi ps) a.1 in
-    let above = not_true (nat_lt p.0 least) a.0 in
-    let below = not_true (nat_lt hi p.0) b.0 in
+    let a = and_parts (not (nat_lt p.0 least)) (not (nat_lt hi p.0) && goes_up (p.0 + 1) hi ps) e in
+    let b = and_parts (not (nat_lt hi p.0)) (goes_up (p.0 + 1) hi ps) a.1 in
+    let above = not-true (nat_lt p.0 least) a.0 in
+    let below = not-true (nat_lt hi p.0) b.0 in
     let low : least ≤ p.0 = grind (arith, nat_tests) in
     let high : p.0 ≤ hi = grind (arith, nat_tests) in
     let rest = goes_up_is (p.0 + 1) hi ps b.1 in

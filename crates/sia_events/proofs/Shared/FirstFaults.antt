@@ -7,7 +7,7 @@ use Rattle.std.proofs.lemmas.List.{length-map}
 use Rattle.sia_events.specs.Limits.{Limits}
 use Rattle.sia_events.specs.declared.event.Event.{Event}
 use Rattle.sia_events.specs.declared.fault.Reason.{Reason}
-use Rattle.sia_events.specs.declared.fault.Reason.TheVariants.{TooManyEvents, BadEvent, BadNumber, AlreadyEnded, AlreadyBegun, EmptyRange, BadList, NotWritten, BadStart}
+use Rattle.sia_events.specs.declared.fault.Reason.TheVariants.{TooManyEvents, BadEvent, BadNumber, EmptyRange, BadList}
 use Rattle.sia_events.specs.Places.{at_place}
 use Rattle.sia_events.specs.Text.{spell}
 use Rattle.sia_events.specs.Refusals.{EventHas, IsEarlier, TokenHas, HasReason, reason_number, AnyForm, IsFirstFault}
@@ -21,6 +21,8 @@ use Rattle.sia_events.proofs.Shared.EventCases.{token_cases}
 use Rattle.sia_events.proofs.Shared.Faults.{IsAmong}
 use Rattle.sia_events.proofs.Shared.EventFaults.{fault_least}
 use Rattle.sia_events.proofs.Shared.Clean.{IsClean, judged_clean}
+use Rattle.std.proofs.lemmas.Option.{slice_get_within}
+use Rattle.sia_events.proofs.LogRows.RowsRead.{get_front}
 
 -- ---- the reasons of the next token
 
@@ -35,61 +37,29 @@ pub record IsNextFault (limits : Limits) (es : List Event) (w : List ℕ) (r : R
   pub has : NextHas limits es w r
   pub least : (s : Reason) → NextHas limits es w s → reason_number r ≤ reason_number s
 
-above_two : (s : Reason) → 2 ≤ reason_number s
+pub above_two : (s : Reason) → 2 ≤ reason_number s
 above_two TooManyEvents = omega arith
-above_two BadEvent = omega arith
-above_two BadNumber = omega arith
-above_two AlreadyEnded = omega arith
-above_two AlreadyBegun = omega arith
-above_two EmptyRange = omega arith
-above_two BadList = omega arith
-above_two NotWritten = omega arith
-above_two BadStart = omega arith
+above_two _ = omega arith
 
 -- of an event that can be spelled the reasons are the event's
 of_event : (limits : Limits) (es : List Event) (w : List ℕ) (e : Event) → length es ≢ limits.events → w ≡ spell e → (s : Reason) → NextHas limits es w s → EventHas (length es) (IsAmong es) e s
 of_event limits es w e few is TooManyEvents has = absurd (few has)
 of_event limits es w e few is BadEvent has = absurd (has e is)
-of_event limits es w e few is BadNumber has = subst (λ f. EventHas (length es) (IsAmong es) f BadNumber) (spell_injective has.0 e (sym has.1 ∙ is)) has.2
-of_event limits es w e few is AlreadyEnded has = subst (λ f. EventHas (length es) (IsAmong es) f AlreadyEnded) (spell_injective has.0 e (sym has.1 ∙ is)) has.2
-of_event limits es w e few is AlreadyBegun has = subst (λ f. EventHas (length es) (IsAmong es) f AlreadyBegun) (spell_injective has.0 e (sym has.1 ∙ is)) has.2
-of_event limits es w e few is EmptyRange has = subst (λ f. EventHas (length es) (IsAmong es) f EmptyRange) (spell_injective has.0 e (sym has.1 ∙ is)) has.2
-of_event limits es w e few is BadList has = subst (λ f. EventHas (length es) (IsAmong es) f BadList) (spell_injective has.0 e (sym has.1 ∙ is)) has.2
-of_event limits es w e few is NotWritten has = subst (λ f. EventHas (length es) (IsAmong es) f NotWritten) (spell_injective has.0 e (sym has.1 ∙ is)) has.2
-of_event limits es w e few is BadStart has = subst (λ f. EventHas (length es) (IsAmong es) f BadStart) (spell_injective has.0 e (sym has.1 ∙ is)) has.2
+of_event limits es w e few is r has = subst (λ f. EventHas (length es) (IsAmong es) f r) (spell_injective has.0 e (sym has.1 ∙ is)) has.2
 
 to_next : (limits : Limits) (es : List Event) (w : List ℕ) (e : Event) → w ≡ spell e → (s : Reason) → EventHas (length es) (IsAmong es) e s → NextHas limits es w s
 to_next limits es w e is TooManyEvents has = absurd has
 to_next limits es w e is BadEvent has = absurd has
-to_next limits es w e is BadNumber has = (e, is, has)
-to_next limits es w e is AlreadyEnded has = (e, is, has)
-to_next limits es w e is AlreadyBegun has = (e, is, has)
-to_next limits es w e is EmptyRange has = (e, is, has)
-to_next limits es w e is BadList has = (e, is, has)
-to_next limits es w e is NotWritten has = (e, is, has)
-to_next limits es w e is BadStart has = (e, is, has)
+to_next limits es w e is _ has = (e, is, has)
 
 unspelled_least : (limits : Limits) (es : List Event) (w : List ℕ) → length es ≢ limits.events → ((e : Event) → w ≢ spell e) → (s : Reason) → NextHas limits es w s → 3 ≤ reason_number s
 unspelled_least limits es w few none TooManyEvents has = absurd (few has)
-unspelled_least limits es w few none BadEvent has = omega arith
-unspelled_least limits es w few none BadNumber has = omega arith
-unspelled_least limits es w few none AlreadyEnded has = omega arith
-unspelled_least limits es w few none AlreadyBegun has = omega arith
-unspelled_least limits es w few none EmptyRange has = omega arith
-unspelled_least limits es w few none BadList has = omega arith
-unspelled_least limits es w few none NotWritten has = omega arith
-unspelled_least limits es w few none BadStart has = omega arith
+unspelled_least limits es w few none _ has = omega arith
 
 number_least : (n : ℕ) (es : List Event) (e : Event) → (s : Reason) → EventHas n (IsAmong es) e s → 4 ≤ reason_number s
 number_least n es e TooManyEvents has = absurd has
 number_least n es e BadEvent has = absurd has
-number_least n es e BadNumber has = omega arith
-number_least n es e AlreadyEnded has = omega arith
-number_least n es e AlreadyBegun has = omega arith
-number_least n es e EmptyRange has = omega arith
-number_least n es e BadList has = omega arith
-number_least n es e NotWritten has = omega arith
-number_least n es e BadStart has = omega arith
+number_least n es e _ has = omega arith
 
 guard_err : (b : Bool) (d r : Reason) (rest : Result Event Reason) → cond b (Err d) rest ≡ Err r → ((b ≡ true) × (d ≡ r)) ⊎ ((b ≡ false) × (rest ≡ Err r))
 guard_err true d r rest e = inl (refl, (let same : d ≡ r = cc in same))
@@ -123,16 +93,6 @@ judged_err limits es w r p = elim (guard_err (length es == limits.events) TooMan
 
 -- ---- tokens after the events' spellings
 
-get_front : (ts us : List (List ℕ)) (j : ℕ) → j < length ts → slice_get (ts ++ us) j ≡ slice_get ts j
-get_front [] us j below = absurd (omega arith)
-get_front (t ∷ ts) us zero below = refl
-get_front (t ∷ ts) us (suc j) below = get_front ts us j (omega arith)
-
-get_below : (ts : List (List ℕ)) (j : ℕ) (w : List ℕ) → slice_get ts j ≡ Some w → j < length ts
-get_below [] j w is = cc
-get_below (t ∷ ts) zero w is = omega arith
-get_below (t ∷ ts) (suc j) w is = let below = get_below ts j w is in omega arith
-
 get_next : (es : List Event) (w : List ℕ) (us : List (List ℕ)) → slice_get (map spell es ++ w ∷ us) (length es) ≡ Some w
 get_next [] w us = refl
 get_next (e ∷ es) w us = get_next es w us
@@ -151,11 +111,6 @@ get_spelling [] us j f is = cc
 get_spelling (e ∷ es) us zero f is = ap Some (ap spell (let same : e ≡ f = cc in same))
 get_spelling (e ∷ es) us (suc j) f is = get_spelling es us j f is
 
-index_below : (es : List Event) (j : ℕ) (f : Event) → slice_get es j ≡ Some f → j < length es
-index_below [] j f is = cc
-index_below (e ∷ es) zero f is = omega arith
-index_below (e ∷ es) (suc j) f is = let below = index_below es j f is in omega arith
-
 earlier_among : (es : List Event) (us : List (List ℕ)) (f : Event) → IsEarlier (map spell es ++ us) (suc (length es)) f → IsAmong es f
 earlier_among es us f h = at_index h.0 h.1 h.2
   where
@@ -164,7 +119,7 @@ earlier_among es us f h = at_index h.0 h.1 h.2
     at_index (suc j) below is = (j, get_event es us j f (omega arith) is)
 
 among_earlier : (es : List Event) (us : List (List ℕ)) (f : Event) → IsAmong es f → IsEarlier (map spell es ++ us) (suc (length es)) f
-among_earlier es us f a = (suc a.0, (let below = index_below es a.0 f a.1 in omega arith), get_spelling es us a.0 f a.1)
+among_earlier es us f a = (suc a.0, (let below = slice_get_within es a.0 f a.1 in omega arith), get_spelling es us a.0 f a.1)
 
 earlier_front : (ts us : List (List ℕ)) (i : ℕ) (f : Event) → i ≤ length ts → IsEarlier (ts ++ us) i f → IsEarlier ts i f
 earlier_front ts us i f within h = at_index h.0 h.1 h.2
@@ -197,13 +152,7 @@ among_has es us e r has =
 token_moved : (limits : Limits) (ts us : List (List ℕ)) (i : ℕ) (w : List ℕ) → ((f : Event) → IsEarlier ts i f → IsEarlier us i f) → ((f : Event) → IsEarlier us i f → IsEarlier ts i f) → (r : Reason) → TokenHas limits AnyForm ts i w r → TokenHas limits AnyForm us i w r
 token_moved limits ts us i w to from TooManyEvents t = t
 token_moved limits ts us i w to from BadEvent t = t
-token_moved limits ts us i w to from BadNumber t = (t.0, tt, t.2, moved (i - 1) (IsEarlier us i) (IsEarlier ts i) to from t.0 BadNumber t.3)
-token_moved limits ts us i w to from AlreadyEnded t = (t.0, tt, t.2, moved (i - 1) (IsEarlier us i) (IsEarlier ts i) to from t.0 AlreadyEnded t.3)
-token_moved limits ts us i w to from AlreadyBegun t = (t.0, tt, t.2, moved (i - 1) (IsEarlier us i) (IsEarlier ts i) to from t.0 AlreadyBegun t.3)
-token_moved limits ts us i w to from EmptyRange t = (t.0, tt, t.2, moved (i - 1) (IsEarlier us i) (IsEarlier ts i) to from t.0 EmptyRange t.3)
-token_moved limits ts us i w to from BadList t = (t.0, tt, t.2, moved (i - 1) (IsEarlier us i) (IsEarlier ts i) to from t.0 BadList t.3)
-token_moved limits ts us i w to from NotWritten t = (t.0, tt, t.2, moved (i - 1) (IsEarlier us i) (IsEarlier ts i) to from t.0 NotWritten t.3)
-token_moved limits ts us i w to from BadStart t = (t.0, tt, t.2, moved (i - 1) (IsEarlier us i) (IsEarlier ts i) to from t.0 BadStart t.3)
+token_moved limits ts us i w to from s t = (t.0, tt, t.2, moved (i - 1) (IsEarlier us i) (IsEarlier ts i) to from t.0 s t.3)
 
 -- a reason of one of the first tokens is one without those after them, and the other way round
 pub reason_front : (limits : Limits) (ts us : List (List ℕ)) (i : ℕ) (r : Reason) → i ≤ length ts → HasReason limits (ts ++ us) i r → HasReason limits ts i r
@@ -223,7 +172,7 @@ front_reason limits ts us i r has = at_number i has
     at_number : (j : ℕ) → HasReason limits ts j r → (j ≤ length ts) × HasReason limits (ts ++ us) j r
     at_number zero h = (let is = h.1 in cc)
     at_number (suc j) h =
-        let below : j < length ts = get_below ts j h.0 h.1 in
+        let below : j < length ts = slice_get_within ts j h.0 h.1 in
         let most : suc j ≤ length ts = omega arith in
         (most, (h.0, get_front ts us j below ∙ h.1, token_moved limits ts (ts ++ us) (suc j) h.0 (λ f. front_earlier ts us (suc j) f most) (λ f. earlier_front ts us (suc j) f most) r h.2))
 
@@ -259,23 +208,17 @@ to_token : (limits : Limits) (es : List Event) (w : List ℕ) (us : List (List �
 to_token limits es w us TooManyEvents has = let is = has in omega arith
 to_token limits es w us BadEvent has = λ e form. has e
 to_token limits es w us BadNumber has = (has.0, tt, has.1, has.2)
-to_token limits es w us AlreadyEnded has = (has.0, tt, has.1, earlier_has es (w ∷ us) has.0 AlreadyEnded has.2)
-to_token limits es w us AlreadyBegun has = (has.0, tt, has.1, earlier_has es (w ∷ us) has.0 AlreadyBegun has.2)
 to_token limits es w us EmptyRange has = (has.0, tt, has.1, has.2)
 to_token limits es w us BadList has = (has.0, tt, has.1, has.2)
-to_token limits es w us NotWritten has = (has.0, tt, has.1, earlier_has es (w ∷ us) has.0 NotWritten has.2)
-to_token limits es w us BadStart has = (has.0, tt, has.1, earlier_has es (w ∷ us) has.0 BadStart has.2)
+to_token limits es w us s has = (has.0, tt, has.1, earlier_has es (w ∷ us) has.0 s has.2)
 
 from_token : (limits : Limits) (es : List Event) (w : List ℕ) (us : List (List ℕ)) (r : Reason) → TokenHas limits AnyForm (map spell es ++ w ∷ us) (suc (length es)) w r → NextHas limits es w r
 from_token limits es w us TooManyEvents t = let is = t in omega arith
 from_token limits es w us BadEvent t = λ e. t e tt
 from_token limits es w us BadNumber t = (t.0, t.2, t.3)
-from_token limits es w us AlreadyEnded t = (t.0, t.2, among_has es (w ∷ us) t.0 AlreadyEnded t.3)
-from_token limits es w us AlreadyBegun t = (t.0, t.2, among_has es (w ∷ us) t.0 AlreadyBegun t.3)
 from_token limits es w us EmptyRange t = (t.0, t.2, t.3)
 from_token limits es w us BadList t = (t.0, t.2, t.3)
-from_token limits es w us NotWritten t = (t.0, t.2, among_has es (w ∷ us) t.0 NotWritten t.3)
-from_token limits es w us BadStart t = (t.0, t.2, among_has es (w ∷ us) t.0 BadStart t.3)
+from_token limits es w us s t = (t.0, t.2, among_has es (w ∷ us) t.0 s t.3)
 
 pub next_first : (limits : Limits) (es : List Event) (w : List ℕ) (us : List (List ℕ)) (r : Reason) → IsClean limits es → IsNextFault limits es w r → IsFirstFault limits (map spell es ++ w ∷ us) (suc (length es)) r
 next_first limits es w us r clean f = record {

@@ -67,21 +67,7 @@ own_fit events n (Range t lo hi listed) p =
       ];
       start_there = λ start is. absurd cc;
     }
-own_fit events n (Write t k) p = record {
-  begins_first = λ b. let is = b.1 in absurd cc;
-  not_empty = λ h. let is = h.3 in cc;
-  list_good = λ h. let is = h.3 in cc;
-  written = λ j v saw other. absurd saw;
-  start_there = λ start is. absurd cc;
-}
-own_fit events n (Commit t) p = record {
-  begins_first = λ b. let is = b.1 in absurd cc;
-  not_empty = λ h. let is = h.3 in cc;
-  list_good = λ h. let is = h.3 in cc;
-  written = λ j v saw other. absurd saw;
-  start_there = λ start is. absurd cc;
-}
-own_fit events n (Abort t) p = record {
+own_fit events n _ p = record {
   begins_first = λ b. let is = b.1 in absurd cc;
   not_empty = λ h. let is = h.3 in cc;
   list_good = λ h. let is = h.3 in cc;

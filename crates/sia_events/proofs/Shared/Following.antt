@@ -2,7 +2,7 @@
 use Rattle.std.proofs.Common.{◌≡◌, ◌≢◌, ◌⊎◌, inl, inr, ℕ, zero, suc, ◌+◌, ◌≤◌, Bool, true, false, cond, List, [], ◌∷◌, ◌++◌, length, take, refl, ap, sym, subst, ◌∙◌, append_assoc, append-nil, arith}
 use Rattle.std.specs.Prelude.{min}
 use Rattle.std.proofs.lemmas.Bool.{cases_lt}
-use Rattle.std.proofs.lemmas.List.{length-append, length-take}
+use Rattle.std.proofs.lemmas.List.{length-append, length-take, take_all}
 use Rattle.std.proofs.lemmas.List.Elements.{recursion_from_All, All-from_recursion, All-push}
 use Rattle.std.proofs.Math.Seq.{take-length}
 use Rattle.sia_events.specs.declared.locating.Place.{Place}
@@ -16,13 +16,6 @@ use Rattle.sia_events.proofs.JudgedTexts.Tokens.{tokens-append, tokens_more, tok
 use Rattle.sia_events.proofs.Shared.Cuts.{some_cut, tokens_cut}
 
 -- ---- the first bytes of a token
-
--- a list that is no longer is all of its front
-pub take_all : (n : ℕ) (xs : List ℕ) → length xs ≤ n → take n xs ≡ xs
-take_all zero [] few = refl
-take_all zero (x ∷ xs) few = absurd (omega arith)
-take_all (suc n) [] few = refl
-take_all (suc n) (x ∷ xs) few = ap (λ (ys : List ℕ). x ∷ ys) (take_all n xs (omega arith))
 
 take_front : (n : ℕ) (xs ys : List ℕ) → take n (take n xs ++ ys) ≡ take n (xs ++ ys)
 take_front zero xs ys = refl

@@ -9,7 +9,7 @@ use Rattle.std.proofs.lemmas.List.Elements.{recursion_from_All}
 use Rattle.sia_events.specs.declared.event.Event.{Event}
 use Rattle.sia_events.specs.declared.event.Event.TheVariants.{Write}
 use Rattle.sia_events.specs.declared.fault.Reason.{Reason}
-use Rattle.sia_events.specs.declared.fault.Reason.TheVariants.{TooManyEvents, BadEvent, BadNumber, AlreadyEnded, AlreadyBegun, EmptyRange, BadList, NotWritten, BadStart}
+use Rattle.sia_events.specs.declared.fault.Reason.TheVariants.{TooManyEvents, BadEvent, BadNumber, AlreadyEnded}
 use Rattle.sia_events.specs.Events.{actor}
 use Rattle.sia_events.specs.Refusals.{IsInRange, IsGoodList, EventHas, reason_number}
 use Rattle.sia_events.specs.Known.{acts, ends, writes, is_explained, goes_up}
@@ -57,11 +57,7 @@ lower_reasons n events e fits open_still BadEvent has = absurd has
 lower_reasons n events e fits open_still BadNumber has = absurd (has fits)
 lower_reasons n events e fits open_still AlreadyEnded (inl c) = absurd ((none_ends events (actor e) open_still).0 c)
 lower_reasons n events e fits open_still AlreadyEnded (inr a) = absurd ((none_ends events (actor e) open_still).1 a)
-lower_reasons n events e fits open_still AlreadyBegun has = omega arith
-lower_reasons n events e fits open_still EmptyRange has = omega arith
-lower_reasons n events e fits open_still BadList has = omega arith
-lower_reasons n events e fits open_still NotWritten has = omega arith
-lower_reasons n events e fits open_still BadStart has = omega arith
+lower_reasons n events e fits open_still _ has = omega arith
 
 -- the reason, and none with a lesser number
 pub record IsLeast (n : ℕ) (events : List Event) (e : Event) (r : Reason) : Type 0 where

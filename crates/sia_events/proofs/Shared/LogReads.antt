@@ -9,7 +9,7 @@ use Rattle.std.proofs.lemmas.List.Kept.{AllPairs-from_increasing}
 use Rattle.std.proofs.lemmas.Grind.{take_at_read}
 use Rattle.std.proofs.lemmas.Option.{slice_get-map, slice_get-get_or, get_or_from_slice_get, slice_get_within}
 use Rattle.sia_events.specs.declared.event.Event.{Event}
-use Rattle.sia_events.specs.declared.event.Event.TheVariants.{Begin, Read, Range, Write, Commit, Abort}
+use Rattle.sia_events.specs.declared.event.Event.TheVariants.{Range}
 use Rattle.sia_events.specs.declared.log.Row.{Row}
 use Rattle.sia_events.specs.declared.log.TxnRow.{TxnRow}
 use Rattle.sia_events.specs.declared.log.RangeRow.{RangeRow}
@@ -116,11 +116,7 @@ ranged_in : (es : List Event) (r : ℕ) (d : ℕ × ℕ × List (ℕ × ℕ)) �
 ranged_in [] r d below = absurd (omega arith)
 ranged_in (Range t lo hi listed ∷ es) zero d below = (0, t, refl)
 ranged_in (Range t lo hi listed ∷ es) (suc r) d below = let w = ranged_in es r d (omega arith) in (suc w.0, w.1, w.2)
-ranged_in (Begin t start ∷ es) r d below = let w = ranged_in es r d below in (suc w.0, w.1, w.2)
-ranged_in (Read t k v ∷ es) r d below = let w = ranged_in es r d below in (suc w.0, w.1, w.2)
-ranged_in (Write t k ∷ es) r d below = let w = ranged_in es r d below in (suc w.0, w.1, w.2)
-ranged_in (Commit t ∷ es) r d below = let w = ranged_in es r d below in (suc w.0, w.1, w.2)
-ranged_in (Abort t ∷ es) r d below = let w = ranged_in es r d below in (suc w.0, w.1, w.2)
+ranged_in (_ ∷ es) r d below = let w = ranged_in es r d below in (suc w.0, w.1, w.2)
 
 -- its listed keys ascend
 pub range_ascends : (h : List Event) → IsWellFormed h → (r : ℕ) → r < length (ranges_of h) → IsStrictlyIncreasing (map (λ p. p.0) (range_at (names_of h) r).2)

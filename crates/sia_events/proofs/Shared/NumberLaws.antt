@@ -2,16 +2,16 @@
 use Rattle.std.proofs.Common.{◌≡◌, ◌⊎◌, inl, inr, ℕ, zero, suc, ◌+◌, ◌-◌, ◌*◌, ◌/◌, ◌%◌, ◌<◌, ◌≤◌, Bool, true, false, List, [], ◌∷◌, ◌++◌, length, take, drop, get_or, Ok, Err, refl, ap, sym, subst, ◌∙◌, append_assoc, arith, nat_lt, nat_le}
 use Rattle.std.specs.Prelude.{◌==◌, ◌&&◌}
 use Rattle.std.proofs.lemmas.List.{append-nil}
-use Rattle.std.proofs.lemmas.List.Sums.{fold-append}
 use Rattle.std.proofs.lemmas.Bool.{cases_lt}
 use Rattle.std.proofs.lemmas.Bool.Decides.{nat_tests}
 use Rattle.sia_events.specs.Text.{numeral}
 use Rattle.sia_events.specs.declared.fault.Reason.TheVariants.{BadEvent}
 use Rattle.sia_events.specs.Parsing.{is_digit, digits_len, lacks_numeral, narrow, number_at}
-use Rattle.sia_events.proofs.Shared.Numerals.{IsDigit, AreDigits, StopsDigits, value_of, value_of-numeral, numeral-digits}
+use Rattle.sia_events.proofs.Shared.Numerals.{IsDigit, AreDigits, StopsDigits, value_of, value_of-numeral, numeral-digits, value_of-append}
 use Rattle.sia_events.proofs.Writing.Decimals.{numeral_digit, numeral_step}
+use Rattle.std.proofs.Math.Seq.{take-append_seam, drop-append_seam}
 
-digit_passes : (c : ℕ) → IsDigit c → is_digit c ≡ true
+pub digit_passes : (c : ℕ) → IsDigit c → is_digit c ≡ true
 digit_passes c d = let low : 48 ≤ c = d.0 in let high : c ≤ 57 = d.1 in grind (arith, nat_tests)
 
 passes_digit : (c : ℕ) → is_digit c ≡ true → IsDigit c
@@ -83,12 +83,9 @@ IsNumeral [] = ⊥
 IsNumeral (c ∷ []) = Unit {0}
 IsNumeral (c ∷ d ∷ ds) = 48 < c
 
-value_push : (ds : List ℕ) (c : ℕ) → value_of (ds ++ c ∷ []) ≡ 10 * value_of ds + (c - 48)
-value_push ds c = fold-append (λ v d. 10 * v + (d - 48)) 0 ds (c ∷ [])
-
 one_more : (front : List ℕ) (c : ℕ) → IsDigit c → 0 < value_of front → numeral (value_of front) ≡ front → numeral (value_of (front ++ c ∷ [])) ≡ front ++ c ∷ []
 one_more front c d positive e =
-    let v : value_of (front ++ c ∷ []) ≡ 10 * value_of front + (c - 48) = value_push front c in
+    let v : value_of (front ++ c ∷ []) ≡ 10 * value_of front + (c - 48) = value_of-append front c in
     let low : 48 ≤ c = d.0 in
     let high : c ≤ 57 = d.1 in
     let tens : value_of (front ++ c ∷ []) / 10 ≡ value_of front = omega arith in
@@ -99,7 +96,7 @@ more_digits : (front ds : List ℕ) → AreDigits ds → 0 < value_of front → 
 more_digits front [] a positive e = rw append-nil e
 more_digits front (c ∷ ds) a positive e =
     let regrouped : front ++ (c ∷ ds) ≡ (front ++ c ∷ []) ++ ds = sym (append_assoc front (c ∷ []) ds) in
-    let grows : 0 < value_of (front ++ c ∷ []) = omega (arith, value_push front c) in
+    let grows : 0 < value_of (front ++ c ∷ []) = omega (arith, value_of-append front c) in
     subst (λ (xs : List ℕ). numeral (value_of xs) ≡ xs) (sym regrouped) (more_digits (front ++ c ∷ []) ds a.1 grows (one_more front c a.0 positive e))
 
 one_numeral : (c : ℕ) → IsDigit c → numeral (value_of (c ∷ [])) ≡ c ∷ []
@@ -144,8 +141,6 @@ lacks (c ∷ d ∷ ds) = c == 48
 
 lacks_numeral_is : (bytes ds rest : List ℕ) → SplitsDigits bytes ds rest → lacks_numeral bytes ≡ lacks ds
 unfolding lacks
-lacks_numeral_is bytes [] rest s = rw s.len refl
-lacks_numeral_is bytes (c ∷ []) rest s = rw s.len refl
 lacks_numeral_is bytes (c ∷ d ∷ ds) rest s =
     let long : digits_len bytes ≡ suc (suc (length ds)) = s.len in
     let some : (digits_len bytes == 0) ≡ false = grind (arith, nat_tests) in
@@ -153,6 +148,7 @@ lacks_numeral_is bytes (c ∷ d ∷ ds) rest s =
     let first : get_or bytes 0 0 ≡ c = ap (λ (xs : List ℕ). get_or xs 0 0) s.whole in
     let same : (get_or bytes 0 0 == 48) ≡ (c == 48) = ap (λ n. n == 48) first in
     rw (some, more) same
+lacks_numeral_is bytes _ rest s = rw s.len refl
 
 lacks_none : (ds : List ℕ) → IsNumeral ds → lacks ds ≡ false
 unfolding lacks
@@ -197,14 +193,6 @@ number_cases bytes = by_digits (splits bytes).0 (splits bytes).1 (splits bytes).
       },
     )
 
-front_of : (ds rest : List ℕ) → take (length ds) (ds ++ rest) ≡ ds
-front_of [] rest = refl
-front_of (d ∷ ds) rest = ap (λ (xs : List ℕ). d ∷ xs) (front_of ds rest)
-
-back_of : (ds rest : List ℕ) → drop (length ds) (ds ++ rest) ≡ rest
-back_of [] rest = refl
-back_of (d ∷ ds) rest = back_of ds rest
-
 -- a numeral is read, whatever follows it that is no digit
 pub number_again : (n : ℕ) (rest : List ℕ) → StopsDigits rest → number_at (numeral n ++ rest) ≡ Ok (narrow n, rest)
 number_again n rest stops =
@@ -213,8 +201,8 @@ number_again n rest stops =
       whole = refl;
       digits = numeral-digits n;
       stops = stops;
-      front = rw len (front_of (numeral n) rest);
-      back = rw len (back_of (numeral n) rest);
+      front = rw len (take-append_seam (numeral n) rest);
+      back = rw len (drop-append_seam (numeral n) rest);
       len = len;
     } in
     reads (numeral n ++ rest) (numeral n) rest s (lacks_none (numeral n) (numeral_numeral n)) ∙ ap (λ m. Ok (narrow m, rest)) (value_of-numeral n)

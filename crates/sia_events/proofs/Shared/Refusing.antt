@@ -1,23 +1,20 @@
 -- The refusal of a text whose tokens spell events, from the reasons that these have among themselves.
-use Rattle.std.proofs.Common.{◌≡◌, ◌≢◌, ◌⊎◌, inl, inr, ℕ, zero, suc, ◌+◌, ◌-◌, ◌<◌, ◌≤◌, List, map, length, Option, Some, None, refl, ap, sym, subst, ◌∙◌, arith}
+use Rattle.std.proofs.Common.{◌≡◌, ◌≢◌, inl, inr, ℕ, zero, suc, ◌+◌, ◌-◌, ◌<◌, ◌≤◌, List, map, length, Option, Some, None, refl, ap, sym, subst, ◌∙◌, arith}
 use Rattle.std.specs.Option.{option_map}
 use Rattle.std.proofs.lemmas.List.{length-map}
 use Rattle.std.proofs.lemmas.Option.{slice_get_within}
 use Rattle.sia_events.specs.Limits.{Limits}
 use Rattle.sia_events.specs.declared.event.Event.{Event}
-use Rattle.sia_events.specs.declared.event.Event.TheVariants.{Range, Write, Commit, Abort}
+use Rattle.sia_events.specs.declared.event.Event.TheVariants.{Write, Commit, Abort}
 use Rattle.sia_events.specs.declared.fault.Reason.{Reason}
 use Rattle.sia_events.specs.declared.fault.Reason.TheVariants.{TooManyEvents, BadEvent, BadNumber, AlreadyEnded, AlreadyBegun, EmptyRange, BadList, NotWritten, BadStart}
 use Rattle.sia_events.specs.declared.fault.TextFault.TheVariants.{NoMemory, TextTooLong, Refused}
 use Rattle.sia_events.specs.Places.{at_place}
 use Rattle.sia_events.specs.Events.{actor, named_start, Saw}
 use Rattle.sia_events.specs.Text.{spell, StandsFor}
-use Rattle.sia_events.specs.Refusals.{IsInRange, EventHas, IsEarlier, TokenHas, HasReason, reason_number, AnyForm, IsFirstFault, IsRefusal, IsBegin, IsEmptyRange, HasBadList, IsAccepted}
-use Rattle.sia_events.proofs.Shared.Decisions.{at_most}
+use Rattle.sia_events.specs.Refusals.{IsInRange, EventHas, IsEarlier, TokenHas, HasReason, AnyForm, IsBegin, IsEmptyRange, HasBadList, IsAccepted}
 use Rattle.sia_events.proofs.Shared.Spelling.{spell_injective}
-use Rattle.sia_events.proofs.Shared.Starts.{one_event}
-use Rattle.sia_events.proofs.Shared.TransactionDecisions.{place_within}
-use Rattle.sia_events.proofs.Writing.WellFormed.{IsBefore, at_place-map, before_earlier, earlier_before, moved, token_has, place_spelled}
+use Rattle.sia_events.proofs.Writing.WellFormed.{IsBefore, at_place-map, before_earlier, earlier_before, moved}
 
 -- a reason of a token that spells an event is one of the event, or there are too many
 token_event : (limits : Limits) (h : List Event) (i : ℕ) (e : Event) (r : Reason) → i ≢ limits.events + 1 → TokenHas limits AnyForm (map spell h) i (spell e) r → EventHas (i - 1) (IsBefore h i) e r
@@ -29,13 +26,7 @@ token_event limits h i e r few has = moved (i - 1) (IsBefore h i) (IsEarlier (ma
     of_reason : (s : Reason) → TokenHas limits AnyForm (map spell h) i (spell e) s → EventHas (i - 1) (IsEarlier (map spell h) i) e s
     of_reason TooManyEvents t = absurd (few t)
     of_reason BadEvent t = absurd (t e tt refl)
-    of_reason BadNumber t = same BadNumber t.0 t.2 t.3
-    of_reason AlreadyEnded t = same AlreadyEnded t.0 t.2 t.3
-    of_reason AlreadyBegun t = same AlreadyBegun t.0 t.2 t.3
-    of_reason EmptyRange t = same EmptyRange t.0 t.2 t.3
-    of_reason BadList t = same BadList t.0 t.2 t.3
-    of_reason NotWritten t = same NotWritten t.0 t.2 t.3
-    of_reason BadStart t = same BadStart t.0 t.2 t.3
+    of_reason r t = same r t.0 t.2 t.3
 
 -- what has a reason spells an event, which has it
 pub place_event : (limits : Limits) (h : List Event) (i : ℕ) (r : Reason) → i ≢ limits.events + 1 → HasReason limits (map spell h) i r → (e : Event) × (at_place h i ≡ Some e) × EventHas (i - 1) (IsBefore h i) e r
@@ -50,51 +41,6 @@ place_event limits h i r few has = of_place (at_place h i) refl
         let word : spell e ≡ has.0 = cc in
         (e, is, token_event limits h i e r few (subst (λ w. TokenHas limits AnyForm (map spell h) i w r) (sym word) has.2))
 
--- the first event with a reason, and its least
-pub record IsFirstFaulty (limits : Limits) (h : List Event) (i : ℕ) (r : Reason) (e : Event) : Type 0 where
-  pub few : i < limits.events + 1
-  pub at : at_place h i ≡ Some e
-  pub has : EventHas (i - 1) (IsBefore h i) e r
-  pub first : (j : ℕ) (f : Event) (s : Reason) → j < i → at_place h j ≡ Some f → ¬ EventHas (j - 1) (IsBefore h j) f s
-  pub least : (s : Reason) → EventHas (i - 1) (IsBefore h i) e s → reason_number r ≤ reason_number s
-
-first_fault : (limits : Limits) (h : List Event) (i : ℕ) (r : Reason) (e : Event) → IsFirstFaulty limits h i r e → IsFirstFault limits (map spell h) i r
-first_fault limits h i r e f = record {
-  has = (spell e, place_spelled h i e f.at, token_has limits (map spell h) i e r (moved (i - 1) (IsEarlier (map spell h) i) (IsBefore h i) (before_earlier h i) (earlier_before h i) e r f.has));
-  first = λ j s given. at_most i j (λ less.
-      let below : i < limits.events + 1 = f.few in
-      let found = place_event limits h j s (λ is. omega arith) given in
-      f.first j found.0 s less found.1 found.2);
-  least = λ s given.
-      let below : i < limits.events + 1 = f.few in
-      let found = place_event limits h i s (λ is. omega arith) given in
-      f.least s (subst (λ g. EventHas (i - 1) (IsBefore h i) g s) (one_event h i i found.0 e refl found.1 f.at) found.2);
-}
-
--- the refusal of a text that stands for a list of events
-pub refused : (limits : Limits) (text : List ℕ) (h : List Event) (i : ℕ) (r : Reason) (e : Event) → StandsFor text h → length text ≤ limits.bytes → IsFirstFaulty limits h i r e → IsRefusal limits text (Refused i r)
-refused limits text h i r e stands short f = (short, subst (λ ts. IsFirstFault limits ts i r) (sym stands) (first_fault limits h i r e f))
-
--- nothing stands before the first event
-pub none_before_first : (h : List Event) (f : Event) → ¬ IsBefore h 1 f
-none_before_first h f b =
-    let above : 0 < b.0 = (place_within h b.0 f b.2).0 in
-    let below : b.0 < 1 = b.1 in
-    omega arith
-
--- a first event that is no range, with numbers in their ranges, can have two reasons
-pub first_reasons : (h : List Event) (e : Event) → IsInRange e → ((lo hi : ℕ) (listed : List (ℕ × ℕ)) → e ≢ Range (actor e) lo hi listed) → (s : Reason) → EventHas 0 (IsBefore h 1) e s → (s ≡ NotWritten) ⊎ (s ≡ BadStart)
-first_reasons h e fits other TooManyEvents has = absurd has
-first_reasons h e fits other BadEvent has = absurd has
-first_reasons h e fits other BadNumber has = absurd (has fits)
-first_reasons h e fits other AlreadyEnded (inl c) = absurd (none_before_first h (Commit (actor e)) c)
-first_reasons h e fits other AlreadyEnded (inr a) = absurd (none_before_first h (Abort (actor e)) a)
-first_reasons h e fits other AlreadyBegun has = absurd (none_before_first h has.1 has.2)
-first_reasons h e fits other EmptyRange has = absurd (other has.0 has.1 has.2 has.3)
-first_reasons h e fits other BadList has = absurd (other has.0 has.1 has.2 has.3)
-first_reasons h e fits other NotWritten has = inl refl
-first_reasons h e fits other BadStart has = inr refl
-
 -- an event that has no reason, by the events before it
 pub record IsFit (n : ℕ) (Earlier : Event → Type 0) (e : Event) : Type 0 where
   pub in_range : IsInRange e
@@ -107,8 +53,6 @@ pub record IsFit (n : ℕ) (Earlier : Event → Type 0) (e : Event) : Type 0 whe
   pub start_there : (start : ℕ) → named_start e ≡ Some start → start ≤ n
 
 pub fit_has_none : (n : ℕ) (Earlier : Event → Type 0) (e : Event) → IsFit n Earlier e → (r : Reason) → ¬ EventHas n Earlier e r
-fit_has_none n Earlier e f TooManyEvents has = has
-fit_has_none n Earlier e f BadEvent has = has
 fit_has_none n Earlier e f BadNumber has = has f.in_range
 fit_has_none n Earlier e f AlreadyEnded (inl c) = f.not_committed c
 fit_has_none n Earlier e f AlreadyEnded (inr a) = f.not_aborted a
@@ -117,6 +61,7 @@ fit_has_none n Earlier e f EmptyRange has = f.not_empty has
 fit_has_none n Earlier e f BadList has = f.list_good has
 fit_has_none n Earlier e f NotWritten has = has.4 (f.written has.0 has.1 has.2 has.3)
 fit_has_none n Earlier e f BadStart has = let most : has.0 ≤ n = f.start_there has.0 has.1 in let less : n < has.0 = has.2 in omega arith
+fit_has_none n Earlier e f _ has = has
 
 -- a text within the limits is accepted, where no event that it stands for has a reason
 pub accepted_from : (limits : Limits) (text : List ℕ) (h : List Event) → StandsFor text h → length h ≤ limits.events → length text ≤ limits.bytes → ((i : ℕ) (e : Event) → at_place h i ≡ Some e → IsFit (i - 1) (IsBefore h i) e) → IsAccepted limits text

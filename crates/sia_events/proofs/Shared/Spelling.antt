@@ -64,19 +64,19 @@ split_before m n c d x y nc nd e =
     let t = h.1 in
     (h.0, (let p : c ≡ d = cc in p), (let q : x ≡ y = cc in q))
 
-colon : ¬ IsDigit 58
+pub colon : ¬ IsDigit 58
 colon = above_digits 58 (omega arith)
 
-bracket : ¬ IsDigit 93
+pub bracket : ¬ IsDigit 93
 bracket = above_digits 93 (omega arith)
 
-open_bracket : ¬ IsDigit 91
+pub open_bracket : ¬ IsDigit 91
 open_bracket = above_digits 91 (omega arith)
 
-comma : ¬ IsDigit 44
+pub comma : ¬ IsDigit 44
 comma = below_digits 44 (omega arith)
 
-dot : ¬ IsDigit 46
+pub dot : ¬ IsDigit 46
 dot = below_digits 46 (omega arith)
 
 -- listed keys are told by their text
@@ -123,7 +123,7 @@ one_actor t u c x y sx sy e = split_numeral t u x y sx sy (let t' : numeral t ++
 one_bracketed : (t u c : ℕ) (x y : List ℕ) → ◌≡◌ {A = List ℕ} (c ∷ (numeral t ++ (91 ∷ x))) (c ∷ (numeral u ++ (91 ∷ y))) → (t ≡ u) × ◌≡◌ {A = ℕ} 91 91 × (x ≡ y)
 one_bracketed t u c x y e = split_before t u 91 91 x y open_bracket open_bracket (let e' : numeral t ++ (91 ∷ x) ≡ numeral u ++ (91 ∷ y) = cc in e')
 
-at_sign : ¬ IsDigit 64
+pub at_sign : ¬ IsDigit 64
 at_sign = above_digits 64 (omega arith)
 
 start_stops : (start : Option ℕ) → StopsDigits (start_text start)
@@ -146,18 +146,14 @@ one_event (Begin t a) (Begin u b) p =
     let h = one_actor t u 98 (start_text a) (start_text b) (start_stops a) (start_stops b) p in
     let x = h.0 in let y = one_start a b h.1 in
     λ i. Begin (x i) (y i)
-one_event (Begin t a) f p = let q : ◌≡◌ {A = ℕ} 98 (letter_of (event_text f)) = ap letter_of p in absurd (omega arith)
 one_event (Commit t) (Commit u) p = ap Commit (one_actor t u 99 [] [] tt tt p).0
-one_event (Commit t) f p = let q : ◌≡◌ {A = ℕ} 99 (letter_of (event_text f)) = ap letter_of p in absurd (omega arith)
 one_event (Abort t) (Abort u) p = ap Abort (one_actor t u 97 [] [] tt tt p).0
-one_event (Abort t) f p = let q : ◌≡◌ {A = ℕ} 97 (letter_of (event_text f)) = ap letter_of p in absurd (omega arith)
 one_event (Write t k) (Write u j) p =
     let h = one_bracketed t u 119 _ _ p in
     let rest : numeral k ++ (93 ∷ []) ≡ numeral j ++ (93 ∷ []) = h.2 in
     let a = h.0 in
     let b = (split_before k j 93 93 _ _ bracket bracket rest).0 in
     λ i. Write (a i) (b i)
-one_event (Write t k) f p = let q : ◌≡◌ {A = ℕ} 119 (letter_of (event_text f)) = ap letter_of p in absurd (omega arith)
 one_event (Read t k v) (Read u j w) p =
     let h = one_bracketed t u 114 _ _ p in
     let rest : numeral k ++ (58 ∷ (numeral v ++ (93 ∷ []))) ≡ numeral j ++ (58 ∷ (numeral w ++ (93 ∷ []))) = h.2 in
@@ -170,7 +166,6 @@ one_event (Read t k v) (Range u lo hi listed) p =
     let h = one_bracketed t u 114 _ _ p in
     let rest : numeral k ++ (58 ∷ (numeral v ++ (93 ∷ []))) ≡ numeral lo ++ (46 ∷ 46 ∷ (numeral hi ++ list_text listed)) = h.2 in
     let q : ◌≡◌ {A = ℕ} 58 46 = (split_before k lo 58 46 _ _ colon dot rest).1 in absurd (omega arith)
-one_event (Read t k v) f p = let q : ◌≡◌ {A = ℕ} 114 (letter_of (event_text f)) = ap letter_of p in absurd (omega arith)
 one_event (Range t lo hi listed) (Read u k v) p =
     let h = one_bracketed t u 114 _ _ p in
     let rest : numeral lo ++ (46 ∷ 46 ∷ (numeral hi ++ list_text listed)) ≡ numeral k ++ (58 ∷ (numeral v ++ (93 ∷ []))) = h.2 in
@@ -183,7 +178,7 @@ one_event (Range t lo hi listed) (Range u low high others) p =
     let k = split_numeral hi high (list_text listed) (list_text others) (list_stops listed) (list_stops others) last in
     let a = h.0 in let b = g.0 in let c = k.0 in let d = one_listed listed others k.1 in
     λ i. Range (a i) (b i) (c i) (d i)
-one_event (Range t lo hi listed) f p = let q : ◌≡◌ {A = ℕ} 114 (letter_of (event_text f)) = ap letter_of p in absurd (omega arith)
+one_event e f p = let q : letter_of (event_text e) ≡ letter_of (event_text f) = ap letter_of p in absurd (omega arith)
 
 -- no two events have one spelling
 pub spell_injective : (e f : Event) → spell e ≡ spell f → e ≡ f

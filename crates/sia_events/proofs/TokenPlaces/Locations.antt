@@ -8,7 +8,7 @@ use Rattle.std.proofs.lemmas.List.Elements.{recursion_from_All}
 use Rattle.std.proofs.lemmas.List.Sums.{sum_by-append, count_by-le-length, prefix_len-le-length}
 use Rattle.sia_events.specs.Text.{is_separator, goes_on, onto_first, tokens}
 use Rattle.sia_events.specs.Locations.{is_line_feed, IsPlaceAfter, IsTokenAt}
-use Rattle.sia_events.proofs.Shared.Canonical.{HasNoSeparator, ends_token, goes_on_token}
+use Rattle.sia_events.proofs.Shared.Canonical.{HasNoSeparator, ends_token, goes_on_token, goes_on_unbroken}
 use Rattle.sia_events.proofs.JudgedTexts.Tokens.{IsClosed, tokens-append}
 
 -- ---- one more byte
@@ -82,9 +82,8 @@ is_ended (c ∷ []) = is_separator c
 is_ended (c ∷ d ∷ cs) = is_ended (d ∷ cs)
 
 is_ended-append : (front : List ℕ) (c : ℕ) (cs : List ℕ) → is_ended (front ++ c ∷ cs) ≡ is_ended (c ∷ cs)
-is_ended-append [] c cs = refl
-is_ended-append (x ∷ []) c cs = refl
 is_ended-append (x ∷ y ∷ front) c cs = is_ended-append (y ∷ front) c cs
+is_ended-append _ c cs = refl
 
 closed_ended : (closed : List ℕ) → IsClosed closed → is_ended closed ≡ true
 closed_ended closed (inl none) = ap is_ended none
@@ -139,13 +138,10 @@ no_longer front (x ∷ xs) rest (m ∷ ms) after ends some t whole same =
     let split = ap length (tokens-append front (m ∷ ms) ends) ∙ length-append (tokens front) (tokens (m ∷ ms)) in
     absurd (omega arith)
 
-goes_on_at : (c : ℕ) (cs : List ℕ) → is_separator c ≡ false → goes_on (c ∷ cs) ≡ true
-goes_on_at c cs e = ap (λ b. cond b false true) e
-
 one_token : (t u rest after : List ℕ) → HasNoSeparator t → HasNoSeparator u → goes_on rest ≡ false → goes_on after ≡ false → t ++ rest ≡ u ++ after → t ≡ u
 one_token [] [] rest after p q a b e = refl
-one_token [] (y ∷ u) rest after p q a b e = let wrong : true ≡ false = sym (goes_on_at y (u ++ after) q.0) ∙ ap goes_on (sym e) ∙ a in cc
-one_token (x ∷ t) [] rest after p q a b e = let wrong : true ≡ false = sym (goes_on_at x (t ++ rest) p.0) ∙ ap goes_on e ∙ b in cc
+one_token [] (y ∷ u) rest after p q a b e = let wrong : true ≡ false = sym (goes_on_unbroken y (u ++ after) q.0) ∙ ap goes_on (sym e) ∙ a in cc
+one_token (x ∷ t) [] rest after p q a b e = let wrong : true ≡ false = sym (goes_on_unbroken x (t ++ rest) p.0) ∙ ap goes_on e ∙ b in cc
 one_token (x ∷ t) (y ∷ u) rest after p q a b e =
     let first : x ≡ y = cc in
     let more = one_token t u rest after p.1 q.1 a b (let tail : t ++ rest ≡ u ++ after = cc in tail) in

@@ -1,11 +1,11 @@
 -- A locator passes the bytes of a piece up to the refused token, and then keeps it.
 use Rattle.std.proofs.Common.{◌≡◌, ◌⊎◌, inl, inr, ℕ, ◌+◌, ◌<◌, ◌≤◌, Bool, true, false, List, [], ◌∷◌, ◌++◌, length, take, drop, get_or, refl, ap, sym, subst, ◌∙◌, append_assoc, append-nil, arith}
 use Rattle.std.proofs.lemmas.Bool.{cases_lt}
-use Rattle.std.proofs.lemmas.List.{length-append, length-take, take_more, take-append-drop}
+use Rattle.std.proofs.lemmas.List.{length-append, length-take, take_more, take-append-drop, take_all}
 use Rattle.std.proofs.Math.Seq.{take-append-add}
 use Rattle.sia_events.specs.Text.{is_separator}
 use Rattle.sia_events.specs.Locating.{Located, HasEnded, Follows, StopsBehind}
-use Rattle.sia_events.proofs.Shared.Following.{ended_more, take_all}
+use Rattle.sia_events.proofs.Shared.Following.{ended_more}
 
 -- the token and where it stands are the same, and no byte of it has come
 pub record IsKept (old new : Located) : Type 0 where

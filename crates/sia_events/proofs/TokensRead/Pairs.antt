@@ -38,8 +38,7 @@ starts bytes = nothing_before (pairs_within (length bytes + 1) bytes)
   where
     nothing_before : (read : Result (Option (List (ℕ × ℕ)) × List ℕ) Reason) → with_front (Some []) read ≡ read
     nothing_before (Ok (None, rest)) = refl
-    nothing_before (Ok (Some ps, rest)) = refl
-    nothing_before (Err r) = refl
+    nothing_before _ = refl
 
 -- whether a byte is ahead, as a search for it answers
 pub ahead : (b : ℕ) (bytes : List ℕ) → pointwise nat_eq (take 1 bytes) (b ∷ []) ≡ begins_with b bytes

@@ -74,13 +74,10 @@ unfolding numeral
 start_after_commit_text = refl
 
 writer_is : (p t k : ℕ) → at_place start_after_commit p ≡ Some (Write t k) → (t ≡ 1) ⊎ (t ≡ 2)
-writer_is zero t k at = cc
 writer_is (suc zero) t k at = inl (let q : 1 ≡ t = cc in sym q)
-writer_is (suc (suc zero)) t k at = cc
-writer_is (suc (suc (suc zero))) t k at = cc
 writer_is (suc (suc (suc (suc zero)))) t k at = inr (let q : 2 ≡ t = cc in sym q)
 writer_is (suc (suc (suc (suc (suc zero))))) t k at = cc
-writer_is (suc (suc (suc (suc (suc (suc p)))))) t k at = cc
+writer_is _ t k at = cc
 
 -- 2 starts no earlier than 1 commits
 not_before : ¬ StartsBeforeCommit start_after_commit 2 1

@@ -24,9 +24,4 @@ left_out h p d r w at k (Some v) false has tells = (
 -- the event of a row with what is left of its listed pairs, if it is a range read
 pub told_of_row : (names : Names) (k : ℕ) (pairs : List (ℕ × ℕ)) (row : Row) → ((d r w : ℕ) → row ≡ rows.Range d r w → filter (λ pair. pair.0 == k) (range_at names r).2 ≡ pairs) → listing pairs (event_of names row) ≡ about k (event_of names row)
 told_of_row names k pairs (rows.Range d r w) left = ap (λ l. listing l (event_of names (rows.Range d r w))) (sym (left d r w refl))
-told_of_row names k pairs (rows.Begin d start) left = refl
-told_of_row names k pairs (rows.Read d key w) left = refl
-told_of_row names k pairs (rows.OwnRead d key w) left = refl
-told_of_row names k pairs (rows.Write d key w) left = refl
-told_of_row names k pairs (rows.Commit d) left = refl
-told_of_row names k pairs (rows.Abort d) left = refl
+told_of_row names k pairs _ left = refl

@@ -6,7 +6,7 @@ use Rattle.std.proofs.lemmas.Bool.{cases_order}
 use Rattle.std.proofs.lemmas.List.{get_or-map, get_or_default, length-map}
 use Rattle.std.proofs.lemmas.List.Kept.{AllPairs-from_increasing}
 use Rattle.sia_events.specs.declared.event.Event.{Event}
-use Rattle.sia_events.specs.declared.event.Event.TheVariants.{Begin, Read, Range, Write, Commit, Abort}
+use Rattle.sia_events.specs.declared.event.Event.TheVariants.{Read, Range}
 use Rattle.sia_events.specs.declared.fault.Reason.TheVariants.{EmptyRange, BadList}
 use Rattle.sia_events.specs.Places.{at_place}
 use Rattle.sia_events.specs.Events.{Saw}
@@ -58,7 +58,6 @@ one_listed listed up k v w a b = elim (cases_order a.0 b.0) [
 ]
 
 saw_once : (e : Event) → ((t lo hi : ℕ) (listed : List (ℕ × ℕ)) → e ≡ Range t lo hi listed → IsGoodList lo hi listed) → (k v w : ℕ) → Saw e k v → Saw e k w → v ≡ w
-saw_once (Begin t start) good k v w a b = absurd a
 saw_once (Read t key saw) good k v w a b = a.1 ∙ sym b.1
 saw_once (Range t lo hi listed) good k v w a b = by_listed a.2 b.2
   where
@@ -67,9 +66,7 @@ saw_once (Range t lo hi listed) good k v w a b = by_listed a.2 b.2
     by_listed (inl c) (inr d) = absurd (d.0 v c)
     by_listed (inr c) (inl d) = absurd (c.0 w d)
     by_listed (inr c) (inr d) = c.1 ∙ sym d.1
-saw_once (Write t key) good k v w a b = absurd a
-saw_once (Commit t) good k v w a b = absurd a
-saw_once (Abort t) good k v w a b = absurd a
+saw_once _ good k v w a b = absurd a
 
 -- a read sees each key that it covers at one version
 pub one_version : (h : List Event) → IsWellFormed h → (p k v w : ℕ) (e : Event) → at_place h p ≡ Some e → Saw e k v → Saw e k w → v ≡ w

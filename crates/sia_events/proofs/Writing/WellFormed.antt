@@ -9,7 +9,7 @@ use Rattle.sia_events.specs.Limits.{Limits, greatest}
 use Rattle.sia_events.specs.declared.event.Event.{Event}
 use Rattle.sia_events.specs.declared.event.Event.TheVariants.{Begin, Read, Range, Write, Commit, Abort}
 use Rattle.sia_events.specs.declared.fault.Reason.{Reason}
-use Rattle.sia_events.specs.declared.fault.Reason.TheVariants.{TooManyEvents, BadEvent, BadNumber, AlreadyEnded, AlreadyBegun, EmptyRange, BadList, NotWritten, BadStart}
+use Rattle.sia_events.specs.declared.fault.Reason.TheVariants.{TooManyEvents, BadEvent, BadNumber, AlreadyEnded, AlreadyBegun, NotWritten}
 use Rattle.sia_events.specs.declared.fault.TextFault.TheVariants.{TextTooLong, Refused}
 use Rattle.sia_events.specs.Places.{at_place}
 use Rattle.sia_events.specs.Events.{actor, Saw}
@@ -22,14 +22,7 @@ use Rattle.sia_events.proofs.Shared.TransactionDecisions.{wrote_before_or_not}
 
 numbers_below : (r : Reason) → reason_number r < 11
 numbers_below TooManyEvents = omega arith
-numbers_below BadEvent = omega arith
-numbers_below BadNumber = omega arith
-numbers_below AlreadyEnded = omega arith
-numbers_below AlreadyBegun = omega arith
-numbers_below EmptyRange = omega arith
-numbers_below BadList = omega arith
-numbers_below NotWritten = omega arith
-numbers_below BadStart = omega arith
+numbers_below _ = omega arith
 
 -- where no first fault is, nothing has a reason
 module _ (limits : Limits) (Form : Event → Type 0) (ts : List (List ℕ)) (none : (i : ℕ) (r : Reason) → ¬ IsFirstFaultIn limits Form ts i r) where
@@ -87,25 +80,16 @@ before_earlier h i f b = (b.0, b.1, at_place-map h b.0 ∙ ap (option_map spell)
 pub moved : (n : ℕ) (Earlier Before : Event → Type 0) → ((f : Event) → Before f → Earlier f) → ((f : Event) → Earlier f → Before f) → (e : Event) (r : Reason) → EventHas n Before e r → EventHas n Earlier e r
 moved n Earlier Before to from e TooManyEvents h = absurd h
 moved n Earlier Before to from e BadEvent h = absurd h
-moved n Earlier Before to from e BadNumber h = h
 moved n Earlier Before to from e AlreadyEnded (inl c) = inl (to (Commit (actor e)) c)
 moved n Earlier Before to from e AlreadyEnded (inr a) = inr (to (Abort (actor e)) a)
 moved n Earlier Before to from e AlreadyBegun h = (h.0, h.1, to h.1 h.2, h.3)
-moved n Earlier Before to from e EmptyRange h = h
-moved n Earlier Before to from e BadList h = h
 moved n Earlier Before to from e NotWritten h = (h.0, h.1, h.2, h.3, λ w. h.4 (from (Write h.1 h.0) w))
-moved n Earlier Before to from e BadStart h = h
+moved n Earlier Before to from e _ h = h
 
 pub token_has : (limits : Limits) (ts : List (List ℕ)) (i : ℕ) (e : Event) (r : Reason) → EventHas (i - 1) (IsEarlier ts i) e r → TokenHas limits AnyForm ts i (spell e) r
 token_has limits ts i e TooManyEvents h = absurd h
 token_has limits ts i e BadEvent h = absurd h
-token_has limits ts i e BadNumber h = (e, tt, refl, h)
-token_has limits ts i e AlreadyEnded h = (e, tt, refl, h)
-token_has limits ts i e AlreadyBegun h = (e, tt, refl, h)
-token_has limits ts i e EmptyRange h = (e, tt, refl, h)
-token_has limits ts i e BadList h = (e, tt, refl, h)
-token_has limits ts i e NotWritten h = (e, tt, refl, h)
-token_has limits ts i e BadStart h = (e, tt, refl, h)
+token_has limits ts i e _ h = (e, tt, refl, h)
 
 -- no token of a well-formed history's text has a reason
 spelled_none : (h : List Event) → IsWellFormed h → (i : ℕ) (r : Reason) → ¬ HasReason greatest (map spell h) i r

@@ -1,9 +1,10 @@
 -- The bytes that are gone through are the first 60.
 use Rattle.std.proofs.Common.{◌≡◌, ◌++◌, List, ℕ, take, flat_map, ap, ◌∙◌, arith}
 use Rattle.sia_events.specs.Locations.{shown_byte}
-use Rattle.sia_events.proofs.Shared.Following.{take_all, take_least}
+use Rattle.sia_events.proofs.Shared.Following.{take_least}
 use Rattle.sia_events.proofs.Writing.Flattened.{spelled_more}
 use Rattle.sia_events.proofs.shown.push_shown.Goals as goal
+use Rattle.std.proofs.lemmas.List.{take_all}
 
 pub returns : goal.returns
 returns c =

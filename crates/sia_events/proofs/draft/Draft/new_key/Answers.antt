@@ -6,8 +6,9 @@ use Rattle.sia_events.specs.declared.log.SeenRow.{SeenRow}
 use Rattle.sia_events.proofs.LogRows.Logs.{key_grown}
 use Rattle.sia_events.proofs.Shared.Drafted.{key_found}
 use Rattle.sia_events.proofs.LogRows.Finders.{below_last}
-use Rattle.sia_events.proofs.LogRows.Distinct.{push_there, entered_new}
+use Rattle.sia_events.proofs.LogRows.Distinct.{entered_new}
 use Rattle.sia_events.proofs.draft.Draft.new_key.Goals as goal
+use Rattle.sia_events.proofs.LogRows.RowsRead.{last_there}
 
 abbrev names : List SeenRow → List ℕ
 names = map (λ x. x.key)
@@ -40,6 +41,6 @@ returns-clause-has c = record {
     pairs = refl;
     events = refl;
   };
-  is = rw (c.in_ok-push-2.ensures.items) (push_there c.args.self.now.tables.keys.items c.args.name _ (len c));
+  is = rw (c.in_ok-push-2.ensures.items) (last_there c.args.self.now.tables.keys.items c.args.name _ (len c));
   keys = c.in_ok-push-2.ensures.items ∙ sym (entered_new c.args.self.now.tables.keys.items c.args.name c.requires.new);
 }

@@ -9,8 +9,8 @@ use Rattle.sia_events.specs.Drafts.{new_txn}
 use Rattle.sia_events.proofs.LogRows.Logs.{txn_grown}
 use Rattle.sia_events.proofs.Shared.Drafted.{found_more}
 use Rattle.sia_events.proofs.LogRows.Finders.{below_last}
-use Rattle.sia_events.proofs.LogRows.Distinct.{push_there}
 use Rattle.sia_events.proofs.draft.Draft.new_txn.Goals as goal
+use Rattle.sia_events.proofs.LogRows.RowsRead.{last_there}
 
 one_more : (c : goal.In_ok-add_from) → txn_names c.push.new.self.items ≡ txn_names c.args.self.now.tables.txns.items ++ c.args.name ∷ []
 one_more c = ap txn_names c.in_ok-push.ensures.items ∙ map-append (λ (x : TxnRow). x.name) c.args.self.now.tables.txns.items (new_txn c.args.name c.args.start ∷ [])
@@ -39,4 +39,4 @@ returns-clause-found c = found_more c.args.self.now _ c.requires.found (txn_grow
     (subst (λ (xs : List TxnRow). Finds c.add_from.new.self (txn_names xs)) c.deref.ensures.value (c.in_ok-add_from.ensures (below_last c.args.self.now.txns _ (txn_names c.args.self.now.tables.txns.items) c.args.name c.len-number.result (ap txn_names c.deref.ensures.value ∙ one_more c) (len c) c.requires.found.txns))) c.requires.found.keys (c.in_ok-add_txn.ensures.kept c.args.self.now.tables.writes.items c.requires.found.writes) (long c) refl refl
 
 pub returns-clause-is : goal.returns-clause-is
-returns-clause-is c = rw (one_more c) (push_there (txn_names c.args.self.now.tables.txns.items) c.args.name _ (len c))
+returns-clause-is c = rw (one_more c) (last_there (txn_names c.args.self.now.tables.txns.items) c.args.name _ (len c))
