@@ -6,8 +6,8 @@ use Rattle.sia_events.specs.declared.fault.Reason.{Reason}
 use Rattle.sia_events.specs.Parsing.{event_at}
 use Rattle.sia_events.specs.Known.{fault_of}
 use Rattle.sia_events.specs.Judging.{judged, unless}
-use Rattle.sia_events.proofs.LogRows.Lived.{other_false}
+use Rattle.std.proofs.lemmas.Bool.{ne_eqb}
 
 pub judged_read : (limits : Limits) (events : List Event) (token : List ℕ) (e : Event) (fault : Option Reason) → length events ≢ limits.events → event_at token ≡ Ok e → fault ≡ fault_of events (length events) e → judged limits events token ≡ unless fault e
 unfolding judged
-judged_read limits events token e fault few read is = rw (other_false (length events) limits.events few, read, is) refl
+judged_read limits events token e fault few read is = rw (ne_eqb (length events) limits.events few, read, is) refl

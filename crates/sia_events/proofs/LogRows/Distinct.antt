@@ -123,18 +123,3 @@ entered_new xs x new = rw (new_none xs x new) refl
 
 pub entered_there : (xs : List ℕ) (n x : ℕ) → slice_get xs n ≡ Some x → entered same_number xs x ≡ xs
 entered_there xs n x at = rw (there_some xs n x at) refl
-
-entered_once : (xs : List ℕ) (x : ℕ) → AreOnce xs → AreOnce (entered same_number xs x)
-entered_once xs x once = by_there (list_any (same_number x) xs) refl where
-  by_there : (b : Bool) → list_any (same_number x) xs ≡ b → AreOnce (if b then xs else xs ++ x ∷ [])
-  by_there true there = once
-  by_there false none = once_push xs x once (λ n at. let there = there_some xs n x at in cc)
-
-fold_once : (xs ys : List ℕ) → AreOnce xs → AreOnce (fold (entered same_number) xs ys)
-fold_once xs [] once = once
-fold_once xs (y ∷ ys) once = fold_once (entered same_number xs y) ys (entered_once xs y once)
-
--- no transaction has two numbers
-pub txns_once : (h : List Event) → AreOnce (txns_of h)
-unfolding txns_of
-txns_once h = fold_once [] (map actor h) (λ i j x none. let e : None ≡ Some x = none in absurd cc)

@@ -1,5 +1,5 @@
 -- Where transactions start and how they end, with one event more.
-use Rattle.std.proofs.Common.{◌≡◌, ◌≢◌, ◌⊎◌, inl, inr, ℕ, zero, suc, ◌≤◌, Bool, true, false, List, [], ◌∷◌, ◌++◌, length, take, set, Option, Some, None, refl, sym, subst, ap, arith, slice_get}
+use Rattle.std.proofs.Common.{◌≡◌, ◌≢◌, ◌⊎◌, inl, inr, ℕ, zero, suc, ◌≤◌, true, false, List, [], ◌∷◌, ◌++◌, length, take, set, Option, Some, None, refl, sym, subst, ap, arith, slice_get}
 use Rattle.std.specs.Prelude.{All, ◌==◌, MatchOption}
 use Rattle.std.specs.List.{list_any}
 use Rattle.std.proofs.Math.Seq.{take-append_seam}
@@ -16,7 +16,7 @@ use Rattle.sia_events.specs.Numbering.{Ends}
 use Rattle.sia_events.specs.Drafts.{new_txn}
 use Rattle.sia_events.specs.LogTables.{Lives}
 use Rattle.sia_events.proofs.Shared.Faults.{IsAmong, any_among, among_any, same_true, ends_is, true_false}
-use Rattle.std.proofs.lemmas.Bool.{or_parts}
+use Rattle.std.proofs.lemmas.Bool.{or_parts, false_from_ne_true}
 use Rattle.std.proofs.lemmas.Bool.Decides.{nat_tests}
 use Rattle.std.proofs.lemmas.Option.{get_or_from_slice_get, slice_get_within}
 use Rattle.sia_events.proofs.Shared.EventTests.{starts_before, starts_named, acts as as_test}
@@ -118,19 +118,13 @@ lives_ended h name (Committed p) is ended = among_any (ends name) h (Commit name
 lives_ended h name (Aborted p) is ended = among_any (ends name) h (Abort name) (among_at h (Abort name) p is) (same_true name)
 
 pub lives_going : (h : List Event) (name : ℕ) → IsOpen h name → list_any (ends name) h ≡ false
-lives_going h name is = by_any (list_any (ends name) h) refl where
-  by_any : (b : Bool) → list_any (ends name) h ≡ b → list_any (ends name) h ≡ false
-  by_any true some = let a = any_among (ends name) h some in elim (ends_is name a.0 a.2) [
-    | inl commit ↦ (let at = at_among h (Commit name) (subst (IsAmong h) commit a.1) in absurd (is.1 at))
-    | inr abort ↦ (let at = at_among h (Abort name) (subst (IsAmong h) abort a.1) in absurd (is.2 at))
-  ]
-  by_any false none = none
+lives_going h name is = false_from_ne_true (list_any (ends name) h) (λ some. let a = any_among (ends name) h some in elim (ends_is name a.0 a.2) [
+  | inl commit ↦ is.1 (at_among h (Commit name) (subst (IsAmong h) commit a.1))
+  | inr abort ↦ is.2 (at_among h (Abort name) (subst (IsAmong h) abort a.1))
+])
 
 -- a row is set, and the others live by their numbers
 pub all_set : {A : Type 0} (P : A → Type 0) (xs : List A) (d : ℕ) (y : A) → ((k : ℕ) (x : A) → slice_get xs k ≡ Some x → k ≢ d → P x) → P y → All P (set xs d y)
 all_set P [] d y others here = λ k x less. absurd (omega arith)
 all_set P (x ∷ xs) zero y others here = All-cons P y xs here (from_get P xs (λ k z at. others (suc k) z at (λ e. omega arith)))
 all_set P (x ∷ xs) (suc d) y others here = All-cons P x (set xs d y) (others 0 x refl (λ e. omega arith)) (all_set P xs d y (λ k z at ne. others (suc k) z at (λ e. ne (omega arith))) here)
-
-pub other_false : (m n : ℕ) → m ≢ n → (m == n) ≡ false
-other_false m n ne = grind (arith, nat_tests)

@@ -1,5 +1,5 @@
 -- Tables that get more rows spell the events that they spelled.
-use Rattle.std.proofs.Common.{◌≡◌, inl, inr, ℕ, zero, suc, ◌+◌, ◌-◌, ◌<◌, ◌≤◌, Bool, true, false, List, [], ◌∷◌, ◌++◌, length, map, take, drop, Some, refl, sym, subst, ◌∙◌, ap, ap₂, arith, append_assoc, get_or, slice_get, nat_lt}
+use Rattle.std.proofs.Common.{◌≡◌, ℕ, suc, ◌+◌, ◌-◌, ◌<◌, ◌≤◌, Bool, true, false, List, [], ◌∷◌, ◌++◌, length, map, take, drop, Some, refl, sym, subst, ◌∙◌, ap, ap₂, arith, append_assoc, get_or, slice_get, rules}
 use Rattle.std.specs.Prelude.{All, if◌then◌else◌}
 use Rattle.std.specs.List.{list_any}
 use Rattle.std.proofs.lemmas.Bool.Decides.{nat_tests}
@@ -12,7 +12,6 @@ use Rattle.sia_events.specs.declared.log.TxnRow.{TxnRow}
 use Rattle.sia_events.specs.declared.log.WriteRow.{WriteRow}
 use Rattle.sia_events.specs.declared.log.RangeRow.{RangeRow}
 use Rattle.sia_events.specs.declared.log.Row.{Row}
-use Rattle.sia_events.specs.declared.log.Row.TheVariants as rows
 use Rattle.sia_events.specs.declared.log.Tables.{Tables}
 use Rattle.sia_events.specs.Numbering.{Names, entered, same_number, txn_at, key_at, version_at, pair_at, mark, event_of, IsSeen, IsPair, IsWithin, IsMarked}
 use Rattle.sia_events.specs.Drafts.{SameButTxns, SameButKeys, SameButWrites, IsNew}
@@ -60,46 +59,26 @@ module _ (a b : Names) (x : Extends a b) where
   seen_length k v w seen = slice_get_within a.writes w (k, v) seen
 
   version_same : (k v w : ℕ) → IsSeen a k v w → version_at b w ≡ version_at a w
-  version_same k v zero seen = refl
-  version_same k v (suc w) seen = ap (λ (p : ℕ × ℕ). p.1) (front_or a.writes b.writes w (0, 0) x.writes (seen_length k v w seen))
+  version_same k v q2 seen = search (rules, front_or, seen_length)
 
   pub seen_more : (k v w : ℕ) → IsSeen a k v w → IsSeen b k v w
-  seen_more k v zero seen = seen
-  seen_more k v (suc w) seen = front_get a.writes b.writes w (k, v) x.writes seen
+  seen_more k v q2 seen = search (rules, front_get)
 
   pub pair_more : (p : ℕ) → IsPair a p → length b.writes < mark → IsPair b p
-  pair_more p (inl low) few = let l = front_length a.writes b.writes x.writes in inl (low.0, omega (arith, low.1), few)
-  pair_more p (inr high) few = let l = front_length a.keys b.keys x.keys in inr (high.0, omega (arith, high.1))
+  pair_more p q1 few = search (rules, front_length)
 
   pub pair_same : (p : ℕ) → IsPair a p → pair_at b p ≡ pair_at a p
   unfolding pair_at
-  pair_same p (inl low) =
-      let below : nat_lt p mark ≡ true = (let a0 = low.1 in let b0 = low.2 in grind (arith, nat_tests)) in
-      rw (below) (front_or a.writes b.writes (p - 1) (0, 0) x.writes (let a0 = low.0 in let b0 = low.1 in omega arith))
-  pair_same p (inr high) =
-      let above : nat_lt p mark ≡ false = (let a0 = high.0 in grind (arith, nat_tests)) in
-      rw (above) (ap (λ k. (k, 0)) (key_same (p - mark) (let a0 = high.0 in let b0 = high.1 in omega arith)))
+  pair_same p q1 = grind (arith, nat_tests, front_or, key_same)
 
   pub event_same : (r : Row) → IsWithin a r → event_of b r ≡ event_of a r
-  event_same (rows.Begin d start) w = rw (txn_same d w) refl
-  event_same (rows.Read d k s) w = rw (txn_same d w.0, key_same k w.1, version_same (key_at a k) (version_at a s) s w.2) refl
-  event_same (rows.OwnRead d k s) w = rw (txn_same d w.0, key_same k w.1, version_same (key_at a k) (version_at a s) s w.2) refl
-  event_same (rows.Range d r n) w = rw (txn_same d w.0, front_or a.ranges b.ranges r (0, 0, []) x.ranges w.1) refl
-  event_same (rows.Write d k n) w = rw (txn_same d w.0, key_same k w.1) refl
-  event_same (rows.Commit d) w = rw (txn_same d w) refl
-  event_same (rows.Abort d) w = rw (txn_same d w) refl
+  event_same q0 w = search (rules, txn_same, key_same, version_same, front_or)
 
   less_more : {A : Type 0} (xs ys : List A) (d : ℕ) → IsFront xs ys → d < length xs → d < length ys
   less_more xs ys d front less = let l = front_length xs ys front in omega arith
 
   pub within_more : (r : Row) → IsWithin a r → IsWithin b r
-  within_more (rows.Begin d start) w = less_more a.txns b.txns d x.txns w
-  within_more (rows.Read d k s) w = (less_more a.txns b.txns d x.txns w.0, less_more a.keys b.keys k x.keys w.1, rw (key_same k w.1, version_same (key_at a k) (version_at a s) s w.2) (seen_more (key_at a k) (version_at a s) s w.2))
-  within_more (rows.OwnRead d k s) w = (less_more a.txns b.txns d x.txns w.0, less_more a.keys b.keys k x.keys w.1, rw (key_same k w.1, version_same (key_at a k) (version_at a s) s w.2) (seen_more (key_at a k) (version_at a s) s w.2))
-  within_more (rows.Range d r n) w = (less_more a.txns b.txns d x.txns w.0, less_more a.ranges b.ranges r x.ranges w.1)
-  within_more (rows.Write d k n) w = (less_more a.txns b.txns d x.txns w.0, less_more a.keys b.keys k x.keys w.1, (w.2.0, rw (key_same k w.1, txn_same d w.0) (front_get a.writes b.writes (n - 1) (key_at a k, txn_at a d) x.writes w.2.1)))
-  within_more (rows.Commit d) w = less_more a.txns b.txns d x.txns w
-  within_more (rows.Abort d) w = less_more a.txns b.txns d x.txns w
+  within_more q0 w = search (rules, less_more, key_same, version_same, seen_more, txn_same, front_get)
 
   pub write_row_more : (w : WriteRow) → IsWriteRow a w → IsWriteRow b w
   write_row_more w within = (less_more a.txns b.txns w.txn x.txns within.0, less_more a.keys b.keys w.key x.keys within.1)
@@ -143,12 +122,7 @@ module _ (t u : Tables) (sound : AreSound t) (grows : Grows t u) where
   writes_kept is = ap (write_names (txn_names u.txns.items) u.keys.items) is ∙ write_names_same
 
   plain_extends : Extends (names_but_ranges t.txns.items t.keys.items t.writes.items) (names_but_ranges u.txns.items u.keys.items u.writes.items)
-  plain_extends = record {
-    txns = grows.txns;
-    keys = grows.keys;
-    writes = (_, writes_now);
-    ranges = ([], refl);
-  }
+  plain_extends = search (rules, writes_now)
 
   range_same : (r : RangeRow) → IsRangeRow t.pairs.items r → range_of (names_but_ranges u.txns.items u.keys.items u.writes.items) u.pairs.items r ≡ range_of (names_but_ranges t.txns.items t.keys.items t.writes.items) t.pairs.items r
   range_same r within =
@@ -169,12 +143,7 @@ module _ (t u : Tables) (sound : AreSound t) (grows : Grows t u) where
   ranges_kept is = ap (map (range_of (names_but_ranges u.txns.items u.keys.items u.writes.items) u.pairs.items)) is ∙ map_same (range_of (names_but_ranges u.txns.items u.keys.items u.writes.items) u.pairs.items) (range_of (names_but_ranges t.txns.items t.keys.items t.writes.items) t.pairs.items) (IsRangeRow t.pairs.items) t.ranges.items range_same sound.ranges
 
   pub extends : (few : length (names_in u).writes < mark) → Extends (names_in t) (names_in u)
-  extends few = record {
-    txns = grows.txns;
-    keys = grows.keys;
-    writes = (_, writes_now);
-    ranges = (_, ranges_now few);
-  }
+  extends few = search (rules, writes_now, ranges_now)
 
   pub grown_sound : (few : length (names_in u).writes < mark) → AreShort u → AreOnce (txn_names u.txns.items) → AreOnce u.keys.items
       → IsMore (IsWithin (names_in u)) t.events.items u.events.items → IsMore (IsWriteRow (names_in u)) t.writes.items u.writes.items → IsMore (IsRangeRow u.pairs.items) t.ranges.items u.ranges.items → IsMore (IsPair (names_in u)) t.pairs.items u.pairs.items → AreSound u
@@ -202,78 +171,20 @@ few_writes u few = let l : length (names_in u).writes ≡ length u.writes.items 
 
 -- one transaction more
 pub txn_grown : (t u : Tables) (x : TxnRow) → AreSound t → SameButTxns t u → u.txns.items ≡ t.txns.items ++ x ∷ [] → length t.txns.items < 536870912 → IsNew (txn_names t.txns.items) x.name → AreSound u × Grows t u
-txn_grown t u x sound same is few new =
-    let names : txn_names u.txns.items ≡ txn_names t.txns.items ++ x.name ∷ [] = ap txn_names is ∙ map-append (λ (y : TxnRow). y.name) t.txns.items (x ∷ []) in
-    let grows : Grows t u = record {
-      txns = (x.name ∷ [], names);
-      keys = front_same t.keys.items u.keys.items same.keys;
-      writes = front_same t.writes.items u.writes.items same.writes;
-      ranges = front_same t.ranges.items u.ranges.items same.ranges;
-      pairs = front_same t.pairs.items u.pairs.items same.pairs;
-    } in
-    let writes : length u.writes.items ≤ 536870912 = rw (same.writes) sound.short.writes in (
-      grown_sound t u sound grows (few_writes u writes) (record {
-        txns = let l : length u.txns.items ≡ length t.txns.items + 1 = ap length is ∙ length-append t.txns.items (x ∷ []) in omega arith;
-        keys = rw (same.keys) sound.short.keys;
-        writes = writes;
-        ranges = rw (same.ranges) sound.short.ranges;
-        pairs = rw (same.pairs) sound.short.pairs;
-      }) (subst AreOnce (sym names) (once_push (txn_names t.txns.items) x.name sound.txns_once new)) (subst AreOnce (sym same.keys) sound.keys_once) (more_none (IsWithin (names_in u)) t.events.items u.events.items same.events) (more_none (IsWriteRow (names_in u)) t.writes.items u.writes.items same.writes) (more_none (IsRangeRow u.pairs.items) t.ranges.items u.ranges.items same.ranges) (more_none (IsPair (names_in u)) t.pairs.items u.pairs.items same.pairs),
-      grows,
-    )
+txn_grown t u x sound same is few new = search (rules, map-append, front_same, grown_sound, few_writes, length-append, once_push, more_none)
 
 -- one key more
 pub key_grown : (t u : Tables) (k : ℕ) → AreSound t → SameButKeys t u → u.keys.items ≡ t.keys.items ++ k ∷ [] → length t.keys.items < 536870912 → IsNew t.keys.items k → AreSound u × Grows t u
-key_grown t u k sound same is few new =
-    let grows : Grows t u = record {
-      txns = front_same (txn_names t.txns.items) (txn_names u.txns.items) (ap txn_names same.txns);
-      keys = (k ∷ [], is);
-      writes = front_same t.writes.items u.writes.items same.writes;
-      ranges = front_same t.ranges.items u.ranges.items same.ranges;
-      pairs = front_same t.pairs.items u.pairs.items same.pairs;
-    } in
-    let writes : length u.writes.items ≤ 536870912 = rw (same.writes) sound.short.writes in (
-      grown_sound t u sound grows (few_writes u writes) (record {
-        txns = rw (same.txns) sound.short.txns;
-        keys = let l : length u.keys.items ≡ length t.keys.items + 1 = ap length is ∙ length-append t.keys.items (k ∷ []) in omega arith;
-        writes = writes;
-        ranges = rw (same.ranges) sound.short.ranges;
-        pairs = rw (same.pairs) sound.short.pairs;
-      }) (subst AreOnce (sym (ap txn_names same.txns)) sound.txns_once) (subst AreOnce (sym is) (once_push t.keys.items k sound.keys_once new)) (more_none (IsWithin (names_in u)) t.events.items u.events.items same.events) (more_none (IsWriteRow (names_in u)) t.writes.items u.writes.items same.writes) (more_none (IsRangeRow u.pairs.items) t.ranges.items u.ranges.items same.ranges) (more_none (IsPair (names_in u)) t.pairs.items u.pairs.items same.pairs),
-      grows,
-    )
+key_grown t u k sound same is few new = search (rules, front_same, grown_sound, few_writes, length-append, once_push, more_none)
 
 -- one event more, and the names of transactions as they are
 pub pushed_sound : (t u : Tables) (r : Row) → AreSound t → txn_names u.txns.items ≡ txn_names t.txns.items → u.keys.items ≡ t.keys.items → u.writes.items ≡ t.writes.items → u.ranges.items ≡ t.ranges.items → u.pairs.items ≡ t.pairs.items → u.events.items ≡ t.events.items ++ r ∷ [] → IsWithin (names_in u) r → AreSound u × Grows t u
-pushed_sound t u r sound txns keys writes ranges pairs is within =
-    let grows : Grows t u = record {
-      txns = front_same (txn_names t.txns.items) (txn_names u.txns.items) txns;
-      keys = front_same t.keys.items u.keys.items keys;
-      writes = front_same t.writes.items u.writes.items writes;
-      ranges = front_same t.ranges.items u.ranges.items ranges;
-      pairs = front_same t.pairs.items u.pairs.items pairs;
-    } in
-    let long : length u.writes.items ≤ 536870912 = rw (writes) sound.short.writes in (
-      grown_sound t u sound grows (few_writes u long) (record {
-        txns = let l : length u.txns.items ≡ length t.txns.items = sym (length-map u.txns.items (λ (y : TxnRow). y.name)) ∙ ap length txns ∙ length-map t.txns.items (λ (y : TxnRow). y.name) in let s = sound.short.txns in omega arith;
-        keys = rw (keys) sound.short.keys;
-        writes = long;
-        ranges = rw (ranges) sound.short.ranges;
-        pairs = rw (pairs) sound.short.pairs;
-      }) (subst AreOnce (sym txns) sound.txns_once) (subst AreOnce (sym keys) sound.keys_once) (more_one (IsWithin (names_in u)) t.events.items u.events.items r is within) (more_none (IsWriteRow (names_in u)) t.writes.items u.writes.items writes) (more_none (IsRangeRow u.pairs.items) t.ranges.items u.ranges.items ranges) (more_none (IsPair (names_in u)) t.pairs.items u.pairs.items pairs),
-      grows,
-    )
+pushed_sound t u r sound txns keys writes ranges pairs is within = search (rules, front_same, grown_sound, few_writes, length-map, more_one, more_none)
 
 -- one write more
 pub write_grown : (t u : Tables) (w : WriteRow) → AreSound t → SameButWrites t u → u.writes.items ≡ t.writes.items ++ w ∷ [] → length t.writes.items < 536870912 → w.txn < length t.txns.items → w.key < length t.keys.items → AreSound u × Grows t u
 write_grown t u w sound same is few txn key =
-    let grows : Grows t u = record {
-      txns = front_same (txn_names t.txns.items) (txn_names u.txns.items) (ap txn_names same.txns);
-      keys = front_same t.keys.items u.keys.items same.keys;
-      writes = (w ∷ [], is);
-      ranges = front_same t.ranges.items u.ranges.items same.ranges;
-      pairs = front_same t.pairs.items u.pairs.items same.pairs;
-    } in
+    let grows : Grows t u = search (rules, front_same) in
     let long : length u.writes.items ≤ 536870912 = (let l : length u.writes.items ≡ length t.writes.items + 1 = ap length is ∙ length-append t.writes.items (w ∷ []) in omega arith) in
     let txn_in : w.txn < length (txn_names u.txns.items) = (let l : length (txn_names u.txns.items) ≡ length t.txns.items = ap length (ap txn_names same.txns) ∙ length-map t.txns.items (λ (y : TxnRow). y.name) in omega arith) in
     let key_in : w.key < length u.keys.items = rw (same.keys) key in (
@@ -291,30 +202,16 @@ pub front_step : {A : Type 0} (xs ys zs : List A) → IsFront xs ys → IsFront 
 front_step xs ys zs a b = (a.0 ++ b.0, b.1 ∙ ap (λ ws. ws ++ b.0) a.1 ∙ append_assoc xs a.0 b.0)
 
 pub grows_step : (t u v : Tables) → Grows t u → Grows u v → Grows t v
-grows_step t u v a b = record {
-  txns = front_step (txn_names t.txns.items) (txn_names u.txns.items) (txn_names v.txns.items) a.txns b.txns;
-  keys = front_step t.keys.items u.keys.items v.keys.items a.keys b.keys;
-  writes = front_step t.writes.items u.writes.items v.writes.items a.writes b.writes;
-  ranges = front_step t.ranges.items u.ranges.items v.ranges.items a.ranges b.ranges;
-  pairs = front_step t.pairs.items u.pairs.items v.pairs.items a.pairs b.pairs;
-}
+grows_step t u v a b = search (rules, front_step)
 
 module _ (a b : Names) (x : Extends a b) where
   pub marked_more : (before : List Event) (r : Row) → IsWithin a r → IsMarked a before r → IsMarked b before r
-  marked_more before (rows.Read d k s) w m = rw (key_same a b x k w.1, txn_same a b x d w.0) m
-  marked_more before (rows.OwnRead d k s) w m = rw (key_same a b x k w.1, txn_same a b x d w.0) m
-  marked_more before _ w m = m
+  marked_more before q1 w m = search (rules, key_same, txn_same)
 
 -- one listed pair more
 pub pair_grown : (t u : Tables) (p : ℕ) → AreSound t → u.txns.items ≡ t.txns.items → u.keys.items ≡ t.keys.items → u.writes.items ≡ t.writes.items → u.ranges.items ≡ t.ranges.items → u.events.items ≡ t.events.items → u.pairs.items ≡ t.pairs.items ++ p ∷ [] → length t.pairs.items < 2147483648 → IsPair (names_in t) p → AreSound u × Grows t u
 pair_grown t u p sound txns keys writes ranges events is few pair =
-    let grows : Grows t u = record {
-      txns = front_same (txn_names t.txns.items) (txn_names u.txns.items) (ap txn_names txns);
-      keys = front_same t.keys.items u.keys.items keys;
-      writes = front_same t.writes.items u.writes.items writes;
-      ranges = front_same t.ranges.items u.ranges.items ranges;
-      pairs = (p ∷ [], is);
-    } in
+    let grows : Grows t u = search (rules, front_same) in
     let long : length u.writes.items ≤ 536870912 = rw (writes) sound.short.writes in
     let few_now = few_writes u long in (
       grown_sound t u sound grows few_now (record {
@@ -337,13 +234,4 @@ range_grown t u r sound txns keys writes pairs events is few within =
       ranges = (r ∷ [], is);
       pairs = front_same t.pairs.items u.pairs.items pairs;
     } in
-    let long : length u.writes.items ≤ 536870912 = rw (writes) sound.short.writes in (
-      grown_sound t u sound grows (few_writes u long) (record {
-        txns = rw (txns) sound.short.txns;
-        keys = rw (keys) sound.short.keys;
-        writes = long;
-        ranges = let l : length u.ranges.items ≡ length t.ranges.items + 1 = ap length is ∙ length-append t.ranges.items (r ∷ []) in omega arith;
-        pairs = rw (pairs) sound.short.pairs;
-      }) (subst AreOnce (sym (ap txn_names txns)) sound.txns_once) (subst AreOnce (sym keys) sound.keys_once) (more_none (IsWithin (names_in u)) t.events.items u.events.items events) (more_none (IsWriteRow (names_in u)) t.writes.items u.writes.items writes) (more_one (IsRangeRow u.pairs.items) t.ranges.items u.ranges.items r is (subst (λ (ps : List ℕ). IsRangeRow ps r) (sym pairs) within)) (more_none (IsPair (names_in u)) t.pairs.items u.pairs.items pairs),
-      grows,
-    )
+    search (rules, grown_sound, few_writes, length-append, more_none, more_one)

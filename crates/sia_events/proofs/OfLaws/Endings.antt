@@ -1,5 +1,5 @@
 -- A transaction of a well-formed history ends once, and nothing of it follows its end.
-use Rattle.std.proofs.Common.{◌≡◌, ◌≢◌, ◌⊎◌, inl, inr, ℕ, ◌≤◌, List, Option, Some, None, refl, sym, subst, ◌∙◌, arith}
+use Rattle.std.proofs.Common.{◌≡◌, ◌≢◌, ◌⊎◌, inl, inr, ℕ, ◌≤◌, List, Option, Some, None, refl, sym, subst, ◌∙◌, arith, rules}
 use Rattle.sia_events.specs.declared.event.Event.{Event}
 use Rattle.sia_events.specs.declared.event.Event.TheVariants.{Commit, Abort}
 use Rattle.sia_events.specs.declared.fault.Reason.TheVariants.{AlreadyEnded}
@@ -30,8 +30,7 @@ pub one_end : (h : List Event) → IsWellFormed h → (t p q : ℕ) → CommitsA
 one_end h wf t p q a b =
     let below : p ≤ q = none_after_abort h wf t p q (Commit t, a, refl) b in
     let above : q ≤ p = none_after_commit h wf t q p (Abort t, b, refl) a in
-    let same : Commit t ≡ Abort t = one_event h p q (Commit t) (Abort t) (omega arith) a b in
-    cc
+    search (rules, one_event)
 
 -- a place commits one transaction
 pub one_committer : (h : List Event) (t u p : ℕ) → CommitsAt h t p → CommitsAt h u p → t ≡ u

@@ -38,7 +38,6 @@ accepted_has_history limits text a = all_spelled (tokens text) (λ i w at. elim 
 -- no token of an accepted text has a reason under greater limits
 none_more : (limits others : Limits) (text : List ℕ) → AreWithin limits others → IsAccepted limits text → (i : ℕ) (r : Reason) → ¬ HasReason others (tokens text) i r
 none_more limits others text within a i TooManyEvents has =
-    let most = within.events in
     let many : i ≡ others.events + 1 = has.2 in
     let there : i ≤ length (tokens text) = (place_within (tokens text) i has.0 has.1).1 in
     let found = at_index (tokens text) limits.events (omega arith) in

@@ -1,5 +1,5 @@
 -- A text has one refusal.
-use Rattle.std.proofs.Common.{◌≡◌, ℕ, ◌≤◌, List, [], ◌∷◌, slice_get, Some, refl, ap, sym, subst, ◌∙◌, arith}
+use Rattle.std.proofs.Common.{◌≡◌, ℕ, ◌≤◌, List, [], ◌∷◌, slice_get, Some, refl, ap, sym, subst, ◌∙◌, arith, rules}
 use Rattle.sia_events.specs.Limits.{Limits}
 use Rattle.sia_events.specs.declared.fault.Reason.{Reason}
 use Rattle.sia_events.specs.declared.fault.Reason.TheVariants.{TooManyEvents, BadEvent, BadNumber, AlreadyEnded, AlreadyBegun, EmptyRange, BadList, NotWritten, BadStart}
@@ -14,8 +14,7 @@ abbrev reasons : List Reason
 reasons = BadEvent ∷ BadEvent ∷ TooManyEvents ∷ BadEvent ∷ BadNumber ∷ AlreadyEnded ∷ AlreadyBegun ∷ EmptyRange ∷ BadList ∷ NotWritten ∷ BadStart ∷ []
 
 numbered : (r : Reason) → slice_get reasons (reason_number r) ≡ Some r
-numbered TooManyEvents = refl
-numbered _ = refl
+numbered q0 = search rules
 
 -- the number tells the reason
 same_reason : (r s : Reason) → reason_number r ≡ reason_number s → r ≡ s
@@ -28,8 +27,7 @@ one_fault limits Form ts i j r s f g =
     let above : j ≤ i = g.first i r f.has in
     let same : i ≡ j = omega arith in
     let less : reason_number r ≤ reason_number s = f.least s (subst (λ n. HasReasonIn limits Form ts n s) (sym same) g.has) in
-    let more : reason_number s ≤ reason_number r = g.least r (subst (λ n. HasReasonIn limits Form ts n r) same f.has) in
-    (same, same_reason r s (omega arith))
+    search (rules, same_reason)
 
 pub one_refusal_in : (limits : Limits) (Form : Event → Type 0) (text : List ℕ) (f g : TextFault) → IsRefusalIn limits Form text f → IsRefusalIn limits Form text g → f ≡ g
 one_refusal_in limits Form text NoMemory g p q = absurd p

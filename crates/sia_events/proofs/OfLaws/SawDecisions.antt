@@ -7,18 +7,18 @@ use Rattle.sia_events.specs.declared.event.Event.TheVariants.{Read, Range}
 use Rattle.sia_events.specs.Places.{at_place}
 use Rattle.sia_events.specs.Events.{actor, Saw}
 use Rattle.sia_events.specs.Reads.{SawAt}
-use Rattle.sia_events.proofs.Shared.Decisions.{Decided, both, same_pair}
+use Rattle.sia_events.proofs.Shared.Decisions.{all_three, Decided, both, same_pair}
 use Rattle.sia_events.proofs.Shared.Starts.{one_event}
 
 -- the first of a list, or one of the rest
-contains_cases : {A : Type 0} (x z : A) (xs : List A) → Contains (x ∷ xs) z → (x ≡ z) ⊎ Contains xs z
+pub contains_cases : {A : Type 0} (x z : A) (xs : List A) → Contains (x ∷ xs) z → (x ≡ z) ⊎ Contains xs z
 contains_cases x z xs c = by_index c.0 c.1 c.2
   where
     by_index : (k : ℕ) → k < length (x ∷ xs) → slice_index_or (x ∷ xs) k z ≡ z → (x ≡ z) ⊎ Contains xs z
     by_index zero below e = inl e
     by_index (suc k) below e = inr (k, omega arith, e)
 
-contains_later : {A : Type 0} (x z : A) (xs : List A) → Contains xs z → Contains (x ∷ xs) z
+pub contains_later : {A : Type 0} (x z : A) (xs : List A) → Contains xs z → Contains (x ∷ xs) z
 contains_later x z xs c = (suc c.0, (let below : c.0 < length xs = c.1 in omega arith), c.2)
 
 -- whether a list holds a pair
@@ -53,19 +53,13 @@ IsListedAt listed k v = Contains listed (k, v) ⊎ (((u : ℕ) → ¬ Contains l
 -- whether an event saw a version of a key
 pub saw_or_not : (e : Event) (k v : ℕ) → Decided (Saw e k v)
 saw_or_not (Read t key saw) k v = both (k ≡ key) (v ≡ saw) (cases_eq k key) (cases_eq v saw)
-saw_or_not (Range t lo hi listed) k v = of_three (at_most_or_not lo k) (at_most_or_not k hi) (listed_at (contains_or_not listed (k, v)) (listed_or_not listed k) (cases_eq v 0))
+saw_or_not (Range t lo hi listed) k v = all_three (lo ≤ k) (k ≤ hi) (IsListedAt listed k v) (at_most_or_not lo k) (at_most_or_not k hi) (listed_at (contains_or_not listed (k, v)) (listed_or_not listed k) (cases_eq v 0))
   where
     listed_at : Decided (Contains listed (k, v)) → ((u : ℕ) × Contains listed (k, u)) ⊎ ((u : ℕ) → ¬ Contains listed (k, u)) → Decided (v ≡ 0) → Decided (IsListedAt listed k v)
     listed_at (inl has) l z = inl (inl has)
     listed_at (inr lacks) (inl other) z = inr (λ s. elim s [ inl has ↦ lacks has | inr none ↦ none.0 other.0 other.1 ])
     listed_at (inr lacks) (inr none) (inl least) = inl (inr (none, least))
     listed_at (inr lacks) (inr none) (inr more) = inr (λ s. elim s [ inl has ↦ lacks has | inr unlisted ↦ more unlisted.1 ])
-
-    of_three : Decided (lo ≤ k) → Decided (k ≤ hi) → Decided (IsListedAt listed k v) → Decided ((lo ≤ k) × (k ≤ hi) × IsListedAt listed k v)
-    of_three (inl a) (inl b) (inl c) = inl (a, b, c)
-    of_three (inl a) (inl b) (inr c) = inr (λ s. c s.2)
-    of_three (inl a) (inr b) c = inr (λ s. b s.1)
-    of_three (inr a) b c = inr (λ s. a s.0)
 saw_or_not _ k v = inr (λ s. s)
 
 -- whether a transaction saw a version of a key at a place

@@ -1,7 +1,6 @@
 -- What a read of a well-formed history saw was written before it.
-use Rattle.std.proofs.Common.{◌≢◌, ℕ, List, subst}
+use Rattle.std.proofs.Common.{◌≢◌, ℕ, List, subst, rules}
 use Rattle.sia_events.specs.declared.event.Event.{Event}
-use Rattle.sia_events.specs.declared.event.Event.TheVariants.{Commit, Abort}
 use Rattle.sia_events.specs.Events.{actor}
 use Rattle.sia_events.specs.Refusals.{IsTxn, IsInRange, IsWellFormed}
 use Rattle.sia_events.specs.Transactions.{ActsAt, IsCommitted, WroteBefore}
@@ -18,9 +17,7 @@ pub saw_writer : (h : List Event) → IsWellFormed h → (p t k v : ℕ) → Saw
 saw_writer h wf p t k v saw other done = let w = saw_written h wf p t k v saw other in ((w.0, w.2), done)
 
 actor_in_range : (e : Event) → IsInRange e → IsTxn (actor e)
-actor_in_range (Commit t) r = r
-actor_in_range (Abort t) r = r
-actor_in_range _ r = r.0
+actor_in_range q0 r = search rules
 
 -- what has an event is a transaction by its number
 pub actor_is_txn : (h : List Event) → IsWellFormed h → (t p : ℕ) → ActsAt h t p → IsTxn t

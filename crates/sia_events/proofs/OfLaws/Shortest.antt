@@ -1,5 +1,5 @@
 -- No text is shorter than its tokens with one byte between each two: so of a history's texts the canonical one is shortest.
-use Rattle.std.proofs.Common.{◌≡◌, ℕ, suc, ◌≤◌, Bool, true, false, List, [], ◌∷◌, length, refl, ap, sym, subst, ◌∙◌, arith}
+use Rattle.std.proofs.Common.{◌≡◌, ℕ, suc, ◌≤◌, Bool, List, [], ◌∷◌, length, refl, sym, subst, arith, rules}
 use Rattle.std.specs.List.{join_with_byte}
 use Rattle.sia_events.specs.declared.event.Event.{Event}
 use Rattle.sia_events.specs.Text.{is_separator, onto_first, tokens, canonical, StandsFor}
@@ -13,37 +13,22 @@ joined ts = length (join_with_byte 32 ts)
 
 -- a byte more in the first token
 joined_onto : (c : ℕ) (ts : List (List ℕ)) → joined (onto_first c ts) ≡ suc (joined ts)
-joined_onto c (t ∷ u ∷ ts) = refl
-joined_onto c _ = refl
+joined_onto c q1 = search rules
 
 -- a token of one byte more
 joined_byte : (c : ℕ) (ts : List (List ℕ)) → joined ((c ∷ []) ∷ ts) ≤ suc (suc (joined ts))
-joined_byte c [] = omega arith
-joined_byte c (t ∷ ts) = omega arith
+joined_byte c q1 = search rules
 
 -- by an equation between lists of tokens
 by_tokens : (ts us : List (List ℕ)) (n : ℕ) → ts ≡ us → joined us ≤ n → joined ts ≤ n
 by_tokens ts us n e le = subst (λ vs. joined vs ≤ n) (sym e) le
 
 last_byte : (c : ℕ) (b : Bool) → is_separator c ≡ b → joined (tokens (c ∷ [])) ≤ 1
-last_byte c true p = by_tokens (tokens (c ∷ [])) [] 1 (skipped c [] [] p) (omega arith)
-last_byte c false p = by_tokens (tokens (c ∷ [])) ((c ∷ []) ∷ []) 1 (ends_token c [] [] p refl) (omega arith)
+last_byte c q1 p = search (rules, by_tokens, skipped, ends_token)
 
 -- two bytes and more: the second is a separator, or it goes on with the first one's token
 two_bytes : (c d : ℕ) (ds : List ℕ) (a b : Bool) → is_separator c ≡ a → is_separator d ≡ b → joined (tokens (d ∷ ds)) ≤ suc (length ds) → joined (tokens ds) ≤ length ds → joined (tokens (c ∷ d ∷ ds)) ≤ suc (suc (length ds))
-two_bytes c d ds true b p q one two =
-    by_tokens (tokens (c ∷ d ∷ ds)) (tokens (d ∷ ds)) (suc (suc (length ds))) (skipped c (d ∷ ds) (tokens (d ∷ ds)) p) (omega arith)
-two_bytes c d ds false false p q one two =
-    by_tokens (tokens (c ∷ d ∷ ds)) (onto_first c (tokens (d ∷ ds))) (suc (suc (length ds)))
-    (goes_on_token c (d ∷ ds) (tokens (d ∷ ds)) p (goes_on_unbroken d ds q))
-    (omega (arith, joined_onto c (tokens (d ∷ ds))))
-two_bytes c d ds false true p q one two =
-    by_tokens (tokens (c ∷ d ∷ ds)) ((c ∷ []) ∷ tokens ds) (suc (suc (length ds)))
-    (
-    ends_token c (d ∷ ds) (tokens (d ∷ ds)) p (stops_at d ds q)
-    ∙ ap (λ (ts : List (List ℕ)). (c ∷ []) ∷ ts) (skipped d ds (tokens ds) q)
-    )
-    (omega (arith, joined_byte c (tokens ds)))
+two_bytes c d ds q3 b p q one two = search (rules, by_tokens, skipped, goes_on_token, goes_on_unbroken, joined_onto, ends_token, stops_at, joined_byte)
 
 -- a text is as long as its tokens so joined, or longer
 pub tokens_shorter : (cs : List ℕ) → joined (tokens cs) ≤ length cs

@@ -47,9 +47,8 @@ begin_of (t ∷ []) = Begin t None
 begin_of (t ∷ n ∷ ns) = Begin t (Some n)
 
 abbrev write_of : List ℕ → Event
-write_of [] = Abort 0
-write_of (t ∷ []) = Abort 0
 write_of (t ∷ k ∷ ns) = Write t k
+write_of _ = Abort 0
 
 abbrev first_of : List ℕ → ℕ
 first_of [] = 0

@@ -1,9 +1,8 @@
 -- The tokens of the canonical text are the spellings.
-use Rattle.std.proofs.Common.{◌≡◌, ℕ, ◌≤◌, Option, Some, None, true, false, cond, List, [], ◌∷◌, ◌++◌, map, refl, ap, sym, subst, ◌∙◌, arith}
+use Rattle.std.proofs.Common.{◌≡◌, ℕ, ◌≤◌, Option, true, false, cond, List, [], ◌∷◌, ◌++◌, map, refl, ap, sym, subst, ◌∙◌, arith, rules}
 use Rattle.std.specs.List.{join_with_byte, AllByRecursion}
 use Rattle.std.proofs.lemmas.Bool.Decides.{nat_tests}
 use Rattle.sia_events.specs.declared.event.Event.{Event}
-use Rattle.sia_events.specs.declared.event.Event.TheVariants.{Begin, Read, Range, Write, Commit, Abort}
 use Rattle.sia_events.specs.Text.{numeral, spell, is_separator, goes_on, onto_first, with_byte, tokens, canonical}
 use Rattle.sia_events.proofs.Shared.Numerals.{IsDigit, AreDigits, numeral-digits}
 use Rattle.sia_events.proofs.Shared.Spelling.{pairs_text, list_text, start_text, event_text, regrouped, spell_injective}
@@ -32,20 +31,13 @@ pairs_unbroken p [] after a = numeral_unbroken p.0 (58 ∷ (numeral p.1 ++ after
 pairs_unbroken p (q ∷ ps) after a = numeral_unbroken p.0 (58 ∷ (numeral p.1 ++ (44 ∷ pairs_text q ps after))) (refl, numeral_unbroken p.1 (44 ∷ pairs_text q ps after) (refl, pairs_unbroken q ps after a))
 
 list_unbroken : (ps : List (ℕ × ℕ)) → HasNoSeparator (list_text ps)
-list_unbroken [] = (refl, tt)
-list_unbroken (p ∷ ps) = (refl, pairs_unbroken p ps (93 ∷ []) (refl, tt))
+list_unbroken q0 = search (rules, pairs_unbroken)
 
 start_unbroken : (start : Option ℕ) → HasNoSeparator (start_text start)
-start_unbroken None = tt
-start_unbroken (Some n) = (refl, numeral_unbroken n [] tt)
+start_unbroken q0 = search (rules, numeral_unbroken)
 
 event_unbroken : (e : Event) → HasNoSeparator (event_text e)
-event_unbroken (Begin t start) = (refl, numeral_unbroken t (start_text start) (start_unbroken start))
-event_unbroken (Read t k v) = (refl, numeral_unbroken t (91 ∷ (numeral k ++ (58 ∷ (numeral v ++ (93 ∷ []))))) (refl, numeral_unbroken k (58 ∷ (numeral v ++ (93 ∷ []))) (refl, numeral_unbroken v (93 ∷ []) (refl, tt))))
-event_unbroken (Range t lo hi listed) = (refl, numeral_unbroken t (91 ∷ (numeral lo ++ (46 ∷ 46 ∷ (numeral hi ++ list_text listed)))) (refl, numeral_unbroken lo (46 ∷ 46 ∷ (numeral hi ++ list_text listed)) (refl, (refl, numeral_unbroken hi (list_text listed) (list_unbroken listed)))))
-event_unbroken (Write t k) = (refl, numeral_unbroken t (91 ∷ (numeral k ++ (93 ∷ []))) (refl, numeral_unbroken k (93 ∷ []) (refl, tt)))
-event_unbroken (Commit t) = (refl, numeral_unbroken t [] tt)
-event_unbroken (Abort t) = (refl, numeral_unbroken t [] tt)
+event_unbroken q0 = search (rules, numeral_unbroken, start_text, start_unbroken, list_text, list_unbroken)
 
 -- a token: it isn't empty
 abbrev pub IsToken : List ℕ → Type 0
@@ -53,8 +45,7 @@ IsToken [] = ⊥
 IsToken (c ∷ cs) = HasNoSeparator (c ∷ cs)
 
 token_of_text : (e : Event) → IsToken (event_text e)
-token_of_text (Begin t start) = event_unbroken (Begin t start)
-token_of_text r = event_unbroken r
+token_of_text q0 = search (rules, event_unbroken)
 
 pub spell_token : (e : Event) → IsToken (spell e)
 spell_token e = subst IsToken (sym (regrouped e)) (token_of_text e)

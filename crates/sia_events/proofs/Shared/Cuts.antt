@@ -1,5 +1,5 @@
 -- A text cut after its last separator.
-use Rattle.std.proofs.Common.{◌≡◌, inl, inr, ℕ, Bool, true, false, List, [], ◌∷◌, ◌++◌, refl, ap, sym, subst, ◌∙◌, append_assoc}
+use Rattle.std.proofs.Common.{◌≡◌, inl, inr, ℕ, Bool, true, false, List, [], ◌∷◌, ◌++◌, refl, ap, sym, subst, ◌∙◌, append_assoc, rules}
 use Rattle.std.proofs.lemmas.List.{append-nil}
 use Rattle.std.proofs.lemmas.List.Elements.{recursion_from_All, All-nil, All-cons}
 use Rattle.sia_events.specs.Limits.{Limits}
@@ -32,15 +32,7 @@ cut_front c text closed rest cut = by_end closed cut cut.closed_ends (is_separat
         closed_ends = inr ([], c, refl, e);
       },
     )
-    by_end ended k (inl none) false e = (
-      [],
-      c ∷ rest,
-      record {
-        whole = ap (λ (xs : List ℕ). c ∷ xs) (k.whole ∙ ap (λ (xs : List ℕ). xs ++ rest) none);
-        rest_goes_on = All-cons (λ b. is_separator b ≡ false) c rest e k.rest_goes_on;
-        closed_ends = inl refl;
-      },
-    )
+    by_end ended k (inl none) false e = search (rules, All-cons)
 
 pub some_cut : (text : List ℕ) → (closed : List ℕ) × (rest : List ℕ) × IsCutAtLastSeparator text closed rest
 some_cut [] = ([], [], record { whole = refl; rest_goes_on = All-nil (λ b. is_separator b ≡ false); closed_ends = inl refl })

@@ -76,11 +76,22 @@ same_pair p q = elim (cases_eq p.0 q.0) [
   | inr n ↦ inr (λ e. n (ap (λ (r : ℕ × ℕ). r.0) e))
 ]
 
--- both of two statements
+-- two statements, or three
 pub both : (P Q : Type 0) → Decided P → Decided Q → Decided (P × Q)
 both P Q (inl p) (inl q) = inl (p, q)
 both P Q (inl p) (inr n) = inr (λ b. n b.1)
 both P Q (inr n) q = inr (λ b. n b.0)
+
+pub all_three : (P Q R : Type 0) → Decided P → Decided Q → Decided R → Decided (P × Q × R)
+all_three P Q R (inl p) (inl q) (inl r) = inl (p, q, r)
+all_three P Q R (inl p) (inl q) (inr n) = inr (λ b. n b.2)
+all_three P Q R (inl p) (inr n) r = inr (λ b. n b.1)
+all_three P Q R (inr n) q r = inr (λ b. n b.0)
+
+-- what is denied of a statement
+pub denied : (P : Type 0) → Decided P → Decided (¬ P)
+denied P (inl p) = inr (λ n. n p)
+denied P (inr n) = inl n
 
 -- a statement that says the same is decided alike
 pub decided_alike : (P Q : Type 0) → (P → Q) → (Q → P) → Decided P → Decided Q

@@ -42,9 +42,10 @@ use Rattle.sia_events.specs.Drafts.{ListsOne, Lists, is_seen, StopsAtPair, Stops
 use Rattle.sia_events.specs.Known.{own_fault, is_explained, read_fault, range_fault, goes_up}
 use Rattle.std.proofs.Math.Bool.{or-true}
 use Rattle.sia_events.proofs.Shared.Faults.{IsAmong, any_among, among_any, ends_is, same_true, true_false}
-use Rattle.sia_events.proofs.LogRows.Lived.{to_get, all_set, lives_more, lives_new, lives_going, lives_ended, start_more, starts_new, other_false}
+use Rattle.sia_events.proofs.LogRows.Lived.{to_get, all_set, lives_more, lives_new, lives_going, lives_ended, start_more, starts_new}
 use Rattle.sia_events.proofs.LogRows.Logs.{IsFront, front_get, seen_more, front_same, front_entered, Grows, events_same, extends, all_more, few_writes, marked_more, pushed_sound, grows_step, front_step, writes_kept, ranges_kept, pair_grown, range_grown, pair_same, map_same}
 use Rattle.sia_events.proofs.LogRows.RowsRead.{push_cases, set_cases, last_there}
+use Rattle.std.proofs.lemmas.Bool.{ne_eqb, false_from_ne_true}
 
 pub found_of : (d : Draft) → Knows d → AreFound d
 unfolding Knows
@@ -97,25 +98,19 @@ code_write t sound n key txn k u at is_key is_txn =
 
 -- and one that isn't
 pub code_none : (t : Tables) → AreSound t → (key txn k u : ℕ) → IsNoneOf t.writes.items txn key → slice_get t.keys.items key ≡ Some k → slice_get (txn_names t.txns.items) txn ≡ Some u → list_any (same_pair (k, u)) (names_in t).writes ≡ false
-code_none t sound key txn k u none is_key is_txn = by_any (list_any (same_pair (k, u)) (names_in t).writes) refl where
-  by_any : (b : Bool) → list_any (same_pair (k, u)) (names_in t).writes ≡ b → list_any (same_pair (k, u)) (names_in t).writes ≡ false
-  by_any true some =
-      let a = any_at (same_pair (k, u)) (names_in t).writes some in
-      let is : (k, u) ≡ a.1 = pairs_tell (k, u) a.1 a.3 in
-      let r = write_row t sound a.0 k u (a.2 ∙ ap Some (sym is)) in
-      absurd (none a.0 r.0 r.1 (sound.txns_once r.0.txn txn u r.3 is_txn) (sound.keys_once r.0.key key k r.2 is_key))
-  by_any false other = other
+code_none t sound key txn k u none is_key is_txn = false_from_ne_true (list_any (same_pair (k, u)) (names_in t).writes) (λ some.
+    let a = any_at (same_pair (k, u)) (names_in t).writes some in
+    let is : (k, u) ≡ a.1 = pairs_tell (k, u) a.1 a.3 in
+    let r = write_row t sound a.0 k u (a.2 ∙ ap Some (sym is)) in
+    none a.0 r.0 r.1 (sound.txns_once r.0.txn txn u r.3 is_txn) (sound.keys_once r.0.key key k r.2 is_key))
 
 -- a transaction without an event wrote nothing
 pub new_wrote_none : (t : Tables) → AreSound t → (k u : ℕ) → IsNew (txn_names t.txns.items) u → list_any (same_pair (k, u)) (names_in t).writes ≡ false
-new_wrote_none t sound k u new = by_any (list_any (same_pair (k, u)) (names_in t).writes) refl where
-  by_any : (b : Bool) → list_any (same_pair (k, u)) (names_in t).writes ≡ b → list_any (same_pair (k, u)) (names_in t).writes ≡ false
-  by_any true some =
-      let a = any_at (same_pair (k, u)) (names_in t).writes some in
-      let is : (k, u) ≡ a.1 = pairs_tell (k, u) a.1 a.3 in
-      let r = write_row t sound a.0 k u (a.2 ∙ ap Some (sym is)) in
-      absurd (new r.0.txn r.3)
-  by_any false other = other
+new_wrote_none t sound k u new = false_from_ne_true (list_any (same_pair (k, u)) (names_in t).writes) (λ some.
+    let a = any_at (same_pair (k, u)) (names_in t).writes some in
+    let is : (k, u) ≡ a.1 = pairs_tell (k, u) a.1 a.3 in
+    let r = write_row t sound a.0 k u (a.2 ∙ ap Some (sym is)) in
+    new r.0.txn r.3)
 
 pub txn_within : (txns : List TxnRow) (n name : ℕ) → slice_get (txn_names txns) n ≡ Some name → n < length txns
 txn_within txns n name at = let l = length-map txns (λ (x : TxnRow). x.name) in let w = slice_get_within (txn_names txns) n name at in omega arith
@@ -125,13 +120,10 @@ pub new_acts : (t : Tables) (name : ℕ) → AreTables t → IsNew (txn_names t.
 new_acts t name tables new = sym (numbered_acts name (events_of t)) ∙ ap (λ (names : Names). list_any (same_number name) names.txns) (sym tables.names) ∙ new_none (txn_names t.txns.items) name new
 
 none_ends : (name : ℕ) (h : List Event) → list_any (acts name) h ≡ false → list_any (ends name) h ≡ false
-none_ends name h none = by_any (list_any (ends name) h) refl where
-  by_any : (b : Bool) → list_any (ends name) h ≡ b → list_any (ends name) h ≡ false
-  by_any true some = let a = any_among (ends name) h some in elim (ends_is name a.0 a.2) [
-    | inl commit ↦ absurd (true_false (list_any (acts name) h) (among_any (acts name) h (Commit name) (subst (IsAmong h) commit a.1) (same_true name)) none)
-    | inr abort ↦ absurd (true_false (list_any (acts name) h) (among_any (acts name) h (Abort name) (subst (IsAmong h) abort a.1) (same_true name)) none)
-  ]
-  by_any false other = other
+none_ends name h none = false_from_ne_true (list_any (ends name) h) (λ some. let a = any_among (ends name) h some in elim (ends_is name a.0 a.2) [
+  | inl commit ↦ true_false (list_any (acts name) h) (among_any (acts name) h (Commit name) (subst (IsAmong h) commit a.1) (same_true name)) none
+  | inr abort ↦ true_false (list_any (acts name) h) (among_any (acts name) h (Abort name) (subst (IsAmong h) abort a.1) (same_true name)) none
+])
 
 pub new_going : (t : Tables) (name : ℕ) → AreTables t → IsNew (txn_names t.txns.items) name → list_any (ends name) (events_of t) ≡ false
 new_going t name tables new = none_ends name (events_of t) (new_acts t name tables new)
@@ -396,7 +388,7 @@ seen_explained names h k v (suc s) same seen = rw (sym (numbered_writes (k, v) h
 
 pub unseen : (names : Names) (h : List Event) (k v : ℕ) → names.writes ≡ writes_of h → v ≢ 0 → list_any (same_pair (k, v)) names.writes ≡ false → is_explained h (k, v) ≡ false
 unfolding is_explained
-unseen names h k v same not_zero none = rw (other_false v 0 not_zero, sym (numbered_writes (k, v) h) ∙ ap (list_any (same_pair (k, v))) (sym same) ∙ none) refl
+unseen names h k v same not_zero none = rw (ne_eqb v 0 not_zero, sym (numbered_writes (k, v) h) ∙ ap (list_any (same_pair (k, v))) (sym same) ∙ none) refl
 
 read_fine : (h : List Event) (n t k v : ℕ) → is_explained h (k, v) ≡ true → own_fault h n (Read t k v) ≡ None
 unfolding own_fault read_fault
@@ -641,7 +633,7 @@ pub pair_refused : (t w e : Draft) (k v kn : ℕ) → AreFound t → HasKey t.ta
 pair_refused t w e k v kn found_t has found same not_zero none =
     let grows = key_grows t.tables w.tables k kn has in
     let kept = writes_kept t.tables w.tables found_t.sound grows has.same.writes in
-    (refl, rw (other_false v 0 not_zero) (ap (list_any (same_pair (k, v))) (sym kept) ∙ none), ap events_of same ∙ spelled_still t.tables w.tables found_t.sound grows (few_writes w.tables found.sound.short.writes) has.same.events)
+    (refl, rw (ne_eqb v 0 not_zero) (ap (list_any (same_pair (k, v))) (sym kept) ∙ none), ap events_of same ∙ spelled_still t.tables w.tables found_t.sound grows (few_writes w.tables found.sound.short.writes) has.same.events)
 
 front_fold : (xs ys : List ℕ) → IsFront xs (fold (entered same_number) xs ys)
 front_fold xs [] = front_same xs xs refl

@@ -1,8 +1,8 @@
 -- What becomes of a token: it has no form, or it spells an event, whose numbers are in their ranges or not.
-use Rattle.std.proofs.Common.{◌≡◌, ◌≢◌, ◌⊎◌, inl, inr, ℕ, ◌<◌, ◌^◌, Bool, true, false, List, [], ◌∷◌, ◌++◌, Some, None, Result, Ok, Err, refl, ap, sym, ◌∙◌, arith, nat_lt}
+use Rattle.std.proofs.Common.{◌≡◌, ◌≢◌, ◌⊎◌, inl, inr, ℕ, ◌<◌, ◌^◌, true, false, List, [], ◌∷◌, ◌++◌, Some, None, Result, Ok, Err, refl, ap, sym, ◌∙◌, arith, nat_lt}
 use Rattle.std.specs.Prelude.{◌==◌}
 use Rattle.std.specs.List.{AllByRecursion}
-use Rattle.std.proofs.lemmas.Bool.{eqb-true, cases_lt}
+use Rattle.std.proofs.lemmas.Bool.{eqb-true, cases_lt, cases_Bool}
 use Rattle.std.proofs.lemmas.Bool.Decides.{nat_tests}
 use Rattle.std.proofs.lemmas.List.Elements.{All-from_recursion, recursion_from_All}
 use Rattle.sia_events.specs.Text.{numeral, spell}
@@ -11,11 +11,10 @@ use Rattle.sia_events.specs.declared.event.Event.TheVariants.{Begin, Read, Range
 use Rattle.sia_events.specs.declared.fault.Reason.{Reason}
 use Rattle.sia_events.specs.declared.fault.Reason.TheVariants.{BadEvent, BadNumber}
 use Rattle.sia_events.specs.Refusals.{IsTxn, IsKey, IsVersion, IsStart, IsInRange}
-use Rattle.sia_events.specs.Parsing.{narrow, key_of, version_of, txn_of, list_of, event_at}
+use Rattle.sia_events.specs.Parsing.{begin_at, read_at, write_at, commit_at, abort_at, narrow, key_of, version_of, txn_of, list_of, event_at}
 use Rattle.sia_events.proofs.Shared.Spelling.{event_text, regrouped}
 use Rattle.sia_events.proofs.TokensRead.Digits.{narrow_small, narrow_great}
-use Rattle.sia_events.proofs.Shared.NumberLaws.{BeginsWith, number_cases}
-use Rattle.sia_events.proofs.Shared.EventLaws.{Lacks, narrow_pair, narrow_list, begin_sound, read_sound, write_sound, commit_sound, abort_sound}
+use Rattle.sia_events.proofs.Shared.EventLaws.{Lacks, number_then, also, narrow_pair, narrow_list, begin_sound, read_sound, write_sound, commit_sound, abort_sound}
 use Rattle.sia_events.proofs.Shared.EventAgain.{in_ranges, event_again}
 
 -- ---- a token that is read has the text of an event
@@ -26,49 +25,28 @@ HasText w = Lacks (event_at w) ⊎ ((e : Event) × (w ≡ event_text e))
 event_found : (w : List ℕ) → HasText w
 unfolding event_at
 event_found [] = inl refl
-event_found (letter ∷ bytes) = elim (number_cases bytes) [
-  | inl e ↦ inl (rw e refl)
-  | inr n ↦ by_begin n.0 n.1 n.2 (letter == 98) refl
-]
+event_found (letter ∷ bytes) = number_then bytes _ (λ n rest h. elim (cases_Bool (letter == 98)) [
+  | inl e ↦ rw e (also (begin_at (narrow n) rest) (begin_sound (narrow n) rest) (λ s. (Begin n s.0, spelled 98 n rest _ h e s.1)))
+  | inr p ↦ elim (cases_Bool (letter == 114)) [
+    | inl e ↦ rw (p, e) (also (read_at (narrow n) rest) (read_sound (narrow n) rest) (λ s. elim s [
+      | inl i ↦ (Read n i.0 i.1, spelled 114 n rest _ h e i.2)
+      | inr i ↦ (Range n i.0 i.1 i.2, spelled 114 n rest _ h e i.3)
+    ]))
+    | inr q ↦ elim (cases_Bool (letter == 119)) [
+      | inl e ↦ rw (p, q, e) (also (write_at (narrow n) rest) (write_sound (narrow n) rest) (λ w. (Write n w.0, spelled 119 n rest _ h e w.1)))
+      | inr r ↦ elim (cases_Bool (letter == 99)) [
+        | inl e ↦ rw (p, q, r, e) (also (commit_at (narrow n) rest) (commit_sound (narrow n) rest) (λ end. (Commit n, spelled 99 n rest [] h e end)))
+        | inr s ↦ elim (cases_Bool (letter == 97)) [
+          | inl e ↦ rw (p, q, r, s, e) (also (abort_at (narrow n) rest) (abort_sound (narrow n) rest) (λ end. (Abort n, spelled 97 n rest [] h e end)))
+          | inr u ↦ inl (rw (p, q, r, s, u) refl)
+        ]
+      ]
+    ]
+  ]
+])
   where
-    spelled : (l : ℕ) (n : ℕ) (rest more : List ℕ) → BeginsWith bytes n rest → (letter == l) ≡ true → rest ≡ more → letter ∷ bytes ≡ l ∷ (numeral n ++ more)
-    spelled l n rest more h p e = let same : letter ≡ l = eqb-true letter l p in (λ i. same i ∷ (h.whole ∙ ap (λ (xs : List ℕ). numeral n ++ xs) e) i)
-
-    by_abort : (n : ℕ) (rest : List ℕ) → BeginsWith bytes n rest → (letter == 98) ≡ false → (letter == 114) ≡ false → (letter == 119) ≡ false → (letter == 99) ≡ false → (b : Bool) → (letter == 97) ≡ b → HasText (letter ∷ bytes)
-    by_abort n rest h p q r s true e = elim (abort_sound (narrow n) rest) [
-      | inl bad ↦ inl (rw (h.read, p, q, r, s, e) bad)
-      | inr end ↦ inr (Abort n, spelled 97 n rest [] h e end)
-    ]
-    by_abort n rest h p q r s false e = inl (rw (h.read, p, q, r, s, e) refl)
-
-    by_commit : (n : ℕ) (rest : List ℕ) → BeginsWith bytes n rest → (letter == 98) ≡ false → (letter == 114) ≡ false → (letter == 119) ≡ false → (b : Bool) → (letter == 99) ≡ b → HasText (letter ∷ bytes)
-    by_commit n rest h p q r true e = elim (commit_sound (narrow n) rest) [
-      | inl bad ↦ inl (rw (h.read, p, q, r, e) bad)
-      | inr end ↦ inr (Commit n, spelled 99 n rest [] h e end)
-    ]
-    by_commit n rest h p q r false e = by_abort n rest h p q r e (letter == 97) refl
-
-    by_write : (n : ℕ) (rest : List ℕ) → BeginsWith bytes n rest → (letter == 98) ≡ false → (letter == 114) ≡ false → (b : Bool) → (letter == 119) ≡ b → HasText (letter ∷ bytes)
-    by_write n rest h p q true e = elim (write_sound (narrow n) rest) [
-      | inl bad ↦ inl (rw (h.read, p, q, e) bad)
-      | inr w ↦ inr (Write n w.0, spelled 119 n rest _ h e w.1)
-    ]
-    by_write n rest h p q false e = by_commit n rest h p q e (letter == 99) refl
-
-    by_read : (n : ℕ) (rest : List ℕ) → BeginsWith bytes n rest → (letter == 98) ≡ false → (b : Bool) → (letter == 114) ≡ b → HasText (letter ∷ bytes)
-    by_read n rest h p true e = elim (read_sound (narrow n) rest) [
-      | inl bad ↦ inl (rw (h.read, p, e) bad)
-      | inr (inl i) ↦ inr (Read n i.0 i.1, spelled 114 n rest _ h e i.2)
-      | inr (inr i) ↦ inr (Range n i.0 i.1 i.2, spelled 114 n rest _ h e i.3)
-    ]
-    by_read n rest h p false e = by_write n rest h p e (letter == 119) refl
-
-    by_begin : (n : ℕ) (rest : List ℕ) → BeginsWith bytes n rest → (b : Bool) → (letter == 98) ≡ b → HasText (letter ∷ bytes)
-    by_begin n rest h true e = elim (begin_sound (narrow n) rest) [
-      | inl bad ↦ inl (rw (h.read, e) bad)
-      | inr s ↦ inr (Begin n s.0, spelled 98 n rest _ h e s.1)
-    ]
-    by_begin n rest h false e = by_read n rest h e (letter == 114) refl
+    spelled : (l : ℕ) (n : ℕ) (rest more : List ℕ) → bytes ≡ numeral n ++ rest → (letter == l) ≡ true → rest ≡ more → letter ∷ bytes ≡ l ∷ (numeral n ++ more)
+    spelled l n rest more h p e = let same : letter ≡ l = eqb-true letter l p in (λ i. same i ∷ (h ∙ ap (λ (xs : List ℕ). numeral n ++ xs) e) i)
 
 -- ---- numbers in their ranges, or not
 

@@ -1,12 +1,12 @@
 -- What a token is read to: a token that is read is spelled so, and each spelling is read.
 use Rattle.std.proofs.Common.{◌≡◌, ◌⊎◌, inl, inr, ℕ, zero, suc, ◌+◌, Bool, true, false, List, [], ◌∷◌, ◌++◌, length, drop, Option, Some, None, Result, Ok, Err, refl, ap, sym, ◌∙◌}
-use Rattle.std.specs.Prelude.{◌==◌}
+use Rattle.std.specs.Prelude.{◌==◌, ⊤, if◌then◌else◌}
 use Rattle.std.proofs.lemmas.Bool.{eqb-true}
 use Rattle.sia_events.specs.Text.{numeral}
 use Rattle.sia_events.specs.declared.fault.Reason.{Reason}
 use Rattle.sia_events.specs.declared.fault.Reason.TheVariants.{BadEvent}
-use Rattle.sia_events.specs.Parsing.{narrow, after_byte, ended, begin_at, write_at, item_at, pair_from, pair_at, joined, one_pair, begins_with, pairs_within, pairs_at, list_at, range_at, read_at, commit_at, abort_at}
-use Rattle.sia_events.proofs.Shared.NumberLaws.{BeginsWith, number_cases}
+use Rattle.sia_events.specs.Parsing.{◌>>=◌, number_at, narrow, after_byte, ended, begin_at, write_at, item_at, pair_from, pair_at, joined, one_pair, begins_with, pairs_within, pairs_at, list_at, range_at, read_at, commit_at, abort_at}
+use Rattle.sia_events.proofs.Shared.NumberLaws.{number_cases}
 use Rattle.sia_events.proofs.Shared.Spelling.{pairs_text, list_text, start_text}
 
 -- ---- a step that has no form, or that goes on
@@ -32,58 +32,53 @@ unfolding ended
 ended_cases [] = inr refl
 ended_cases (c ∷ rest) = inl refl
 
+-- ---- a step, and what comes after it
+
+passed : {A B P : Type 0} (r : Result A Reason) (f : A → Result B Reason) (a : A) → r ≡ Ok a → Lacks (f a) ⊎ P → Lacks (r >>= f) ⊎ P
+passed r f a e (inl bad) = inl (rw e bad)
+passed r f a e (inr p) = inr p
+
+after_then : {B P : Type 0} (byte : ℕ) (bytes : List ℕ) (f : List ℕ → Result B Reason) → ((rest : List ℕ) → bytes ≡ byte ∷ rest → Lacks (f rest) ⊎ P) → Lacks (after_byte byte bytes >>= f) ⊎ P
+after_then byte bytes f next = elim (after_cases byte bytes) [ inl e ↦ inl (rw e refl) | inr a ↦ passed (after_byte byte bytes) f a.0 a.1.read (next a.0 a.1.whole) ]
+
+pub number_then : {B P : Type 0} (bytes : List ℕ) (f : Option ℕ × List ℕ → Result B Reason) → ((n : ℕ) (rest : List ℕ) → bytes ≡ numeral n ++ rest → Lacks (f (narrow n, rest)) ⊎ P) → Lacks (number_at bytes >>= f) ⊎ P
+number_then bytes f next = elim (number_cases bytes) [ inl e ↦ inl (rw e refl) | inr n ↦ passed (number_at bytes) f (narrow n.0, n.1) n.2.read (next n.0 n.1 n.2.whole) ]
+
+pub also : {A P Q : Type 0} (r : Result A Reason) → Lacks r ⊎ P → (P → Q) → Lacks r ⊎ Q
+also r (inl bad) f = inl bad
+also r (inr p) f = inr (f p)
+
+ended_then : {B P : Type 0} (bytes : List ℕ) (f : ⊤ → Result B Reason) → (bytes ≡ [] → P) → Lacks (ended bytes >>= f) ⊎ P
+ended_then bytes f found = elim (ended_cases bytes) [ inl e ↦ inl (rw e refl) | inr e ↦ inr (found e) ]
+
 -- ---- a token that is read is spelled so
 
 pub commit_sound : (txn : Option ℕ) (bytes : List ℕ) → Lacks (commit_at txn bytes) ⊎ (bytes ≡ [])
 unfolding commit_at
-commit_sound txn bytes = elim (ended_cases bytes) [ inl e ↦ inl (rw e refl) | inr e ↦ inr e ]
+commit_sound txn bytes = ended_then bytes _ (λ e. e)
 
 pub abort_sound : (txn : Option ℕ) (bytes : List ℕ) → Lacks (abort_at txn bytes) ⊎ (bytes ≡ [])
 unfolding abort_at
-abort_sound txn bytes = elim (ended_cases bytes) [ inl e ↦ inl (rw e refl) | inr e ↦ inr e ]
+abort_sound txn bytes = ended_then bytes _ (λ e. e)
 
 pub begin_sound : (txn : Option ℕ) (bytes : List ℕ) → Lacks (begin_at txn bytes) ⊎ ((start : Option ℕ) × (bytes ≡ start_text start))
 unfolding begin_at
 begin_sound txn [] = inr (None, refl)
-begin_sound txn (c ∷ bytes) = elim (after_cases 64 (c ∷ bytes)) [
-  | inl e ↦ inl (rw e refl)
-  | inr a ↦ elim (number_cases a.0) [
-    | inl e ↦ inl (rw (a.1.read, e) refl)
-    | inr n ↦ elim (ended_cases n.1) [
-      | inl e ↦ inl (rw (a.1.read, n.2.read, e) refl)
-      | inr e ↦ inr (Some n.0, a.1.whole ∙ ap (λ (xs : List ℕ). 64 ∷ xs) (n.2.whole ∙ ap (λ (xs : List ℕ). numeral n.0 ++ xs) e))
-    ]
-  ]
-]
+begin_sound txn (c ∷ bytes) =
+    after_then 64 (c ∷ bytes) _ (λ rest a. number_then rest _ (λ n more h. ended_then more _ (λ e.
+    (Some n, a ∙ ap (λ (xs : List ℕ). 64 ∷ xs) (h ∙ ap (λ (xs : List ℕ). numeral n ++ xs) e)))))
 
 pub write_sound : (txn : Option ℕ) (bytes : List ℕ) → Lacks (write_at txn bytes) ⊎ ((k : ℕ) × (bytes ≡ 91 ∷ (numeral k ++ (93 ∷ []))))
 unfolding write_at
-write_sound txn bytes = elim (after_cases 91 bytes) [
-  | inl e ↦ inl (rw e refl)
-  | inr a ↦ elim (number_cases a.0) [
-    | inl e ↦ inl (rw (a.1.read, e) refl)
-    | inr n ↦ elim (after_cases 93 n.1) [
-      | inl e ↦ inl (rw (a.1.read, n.2.read, e) refl)
-      | inr b ↦ elim (ended_cases b.0) [
-        | inl e ↦ inl (rw (a.1.read, n.2.read, b.1.read, e) refl)
-        | inr e ↦ inr (n.0, a.1.whole ∙ ap (λ (xs : List ℕ). 91 ∷ xs) (n.2.whole ∙ ap (λ (xs : List ℕ). numeral n.0 ++ xs) (b.1.whole ∙ ap (λ (xs : List ℕ). 93 ∷ xs) e)))
-      ]
-    ]
-  ]
-]
+write_sound txn bytes =
+    after_then 91 bytes _ (λ rest a. number_then rest _ (λ n more h. after_then 93 more _ (λ last b. ended_then last _ (λ e.
+    (n, a ∙ ap (λ (xs : List ℕ). 91 ∷ xs) (h ∙ ap (λ (xs : List ℕ). numeral n ++ xs) (b ∙ ap (λ (xs : List ℕ). 93 ∷ xs) e)))))))
 
 item_sound : (txn key : Option ℕ) (bytes : List ℕ) → Lacks (item_at txn key bytes) ⊎ ((v : ℕ) × (bytes ≡ numeral v ++ (93 ∷ [])))
 unfolding item_at
-item_sound txn key bytes = elim (number_cases bytes) [
-  | inl e ↦ inl (rw e refl)
-  | inr n ↦ elim (after_cases 93 n.1) [
-    | inl e ↦ inl (rw (n.2.read, e) refl)
-    | inr b ↦ elim (ended_cases b.0) [
-      | inl e ↦ inl (rw (n.2.read, b.1.read, e) refl)
-      | inr e ↦ inr (n.0, n.2.whole ∙ ap (λ (xs : List ℕ). numeral n.0 ++ xs) (b.1.whole ∙ ap (λ (xs : List ℕ). 93 ∷ xs) e))
-    ]
-  ]
-]
+item_sound txn key bytes =
+    number_then bytes _ (λ n more h. after_then 93 more _ (λ last b. ended_then last _ (λ e.
+    (n, h ∙ ap (λ (xs : List ℕ). numeral n ++ xs) (b ∙ ap (λ (xs : List ℕ). 93 ∷ xs) e)))))
 
 -- ---- listed keys
 
@@ -179,21 +174,14 @@ list_end : (ps : List (ℕ × ℕ)) → list_front ps (93 ∷ []) ≡ list_text 
 list_end [] = refl
 list_end (p ∷ ps) = refl
 
+list_then : {B P : Type 0} (bytes : List ℕ) (f : Option (List (ℕ × ℕ)) × List ℕ → Result B Reason) → ((ps : List (ℕ × ℕ)) (rest : List ℕ) → bytes ≡ list_front ps rest → Lacks (f (narrow_list ps, rest)) ⊎ P) → Lacks (list_at bytes >>= f) ⊎ P
+list_then bytes f next = elim (list_cases bytes) [ inl e ↦ inl (rw e refl) | inr l ↦ passed (list_at bytes) f (narrow_list l.0, l.1) l.2.read (next l.0 l.1 l.2.whole) ]
+
 range_sound : (txn low : Option ℕ) (bytes : List ℕ) → Lacks (range_at txn low bytes) ⊎ ((hi : ℕ) × (ps : List (ℕ × ℕ)) × (bytes ≡ numeral hi ++ list_text ps))
 unfolding range_at
-range_sound txn low bytes = elim (number_cases bytes) [
-  | inl e ↦ inl (rw e refl)
-  | inr n ↦ elim (list_cases n.1) [
-    | inl e ↦ inl (rw (n.2.read, e) refl)
-    | inr l ↦ elim (after_cases 93 l.1) [
-      | inl e ↦ inl (rw (n.2.read, l.2.read, e) refl)
-      | inr b ↦ elim (ended_cases b.0) [
-        | inl e ↦ inl (rw (n.2.read, l.2.read, b.1.read, e) refl)
-        | inr e ↦ inr (n.0, l.0, n.2.whole ∙ ap (λ (xs : List ℕ). numeral n.0 ++ xs) (l.2.whole ∙ ap (list_front l.0) (b.1.whole ∙ ap (λ (xs : List ℕ). 93 ∷ xs) e) ∙ list_end l.0))
-      ]
-    ]
-  ]
-]
+range_sound txn low bytes =
+    number_then bytes _ (λ n more h. list_then more _ (λ ps rest l. after_then 93 rest _ (λ last b. ended_then last _ (λ e.
+    (n, ps, h ∙ ap (λ (xs : List ℕ). numeral n ++ xs) (l ∙ ap (list_front ps) (b ∙ ap (λ (xs : List ℕ). 93 ∷ xs) e) ∙ list_end ps))))))
 
 -- what follows a reader's name
 abbrev pub IsReadText : List ℕ → Type 0
@@ -202,26 +190,15 @@ IsReadText bytes = ((k : ℕ) × (v : ℕ) × (bytes ≡ 91 ∷ (numeral k ++ (5
 
 pub read_sound : (txn : Option ℕ) (bytes : List ℕ) → Lacks (read_at txn bytes) ⊎ IsReadText bytes
 unfolding read_at
-read_sound txn bytes = elim (after_cases 91 bytes) [
-  | inl e ↦ inl (rw e refl)
-  | inr a ↦ elim (number_cases a.0) [
-    | inl e ↦ inl (rw (a.1.read, e) refl)
-    | inr n ↦ by_colon a.0 a.1 n.0 n.1 n.2 (begins_with 58 n.1) refl
-  ]
-]
+read_sound txn bytes = after_then 91 bytes _ (λ rest a. number_then rest _ (λ n more h. by_colon rest a n more h (begins_with 58 more) refl))
   where
-    by_colon : (rest : List ℕ) → Goes 91 bytes rest → (n : ℕ) (more : List ℕ) → BeginsWith rest n more → (b : Bool) → begins_with 58 more ≡ b → Lacks (read_at txn bytes) ⊎ IsReadText bytes
+    by_colon : (rest : List ℕ) → bytes ≡ 91 ∷ rest → (n : ℕ) (more : List ℕ) → rest ≡ numeral n ++ more → (b : Bool) → begins_with 58 more ≡ b
+        → Lacks (if b then item_at txn (narrow n) (drop 1 more) else (after_byte 46 more >>= λ x. after_byte 46 x >>= λ y. range_at txn (narrow n) y)) ⊎ IsReadText bytes
     by_colon rest a n more h true e = elim (item_sound txn (narrow n) (drop 1 more)) [
-      | inl bad ↦ inl (rw (a.read, h.read, e) bad)
-      | inr v ↦ inr (inl (n, v.0, a.whole ∙ ap (λ (xs : List ℕ). 91 ∷ xs) (h.whole ∙ ap (λ (xs : List ℕ). numeral n ++ xs) (begins_is 58 more e ∙ ap (λ (xs : List ℕ). 58 ∷ xs) v.1))))
+      | inl bad ↦ inl bad
+      | inr v ↦ inr (inl (n, v.0, a ∙ ap (λ (xs : List ℕ). 91 ∷ xs) (h ∙ ap (λ (xs : List ℕ). numeral n ++ xs) (begins_is 58 more e ∙ ap (λ (xs : List ℕ). 58 ∷ xs) v.1))))
     ]
-    by_colon rest a n more h false e = elim (after_cases 46 more) [
-      | inl bad ↦ inl (rw (a.read, h.read, e, bad) refl)
-      | inr b ↦ elim (after_cases 46 b.0) [
-        | inl bad ↦ inl (rw (a.read, h.read, e, b.1.read, bad) refl)
-        | inr d ↦ elim (range_sound txn (narrow n) d.0) [
-          | inl bad ↦ inl (rw (a.read, h.read, e, b.1.read, d.1.read) bad)
-          | inr r ↦ inr (inr (n, r.0, r.1, a.whole ∙ ap (λ (xs : List ℕ). 91 ∷ xs) (h.whole ∙ ap (λ (xs : List ℕ). numeral n ++ xs) (b.1.whole ∙ ap (λ (xs : List ℕ). 46 ∷ xs) (d.1.whole ∙ ap (λ (xs : List ℕ). 46 ∷ xs) r.2)))))
-        ]
-      ]
-    ]
+    by_colon rest a n more h false e = after_then 46 more _ (λ x b. after_then 46 x _ (λ y d. elim (range_sound txn (narrow n) y) [
+      | inl bad ↦ inl bad
+      | inr r ↦ inr (inr (n, r.0, r.1, a ∙ ap (λ (xs : List ℕ). 91 ∷ xs) (h ∙ ap (λ (xs : List ℕ). numeral n ++ xs) (b ∙ ap (λ (xs : List ℕ). 46 ∷ xs) (d ∙ ap (λ (xs : List ℕ). 46 ∷ xs) r.2)))))
+    ]))

@@ -1,8 +1,8 @@
 -- A number that is read is spelled so, and a numeral is read again.
 use Rattle.std.proofs.Common.{◌≡◌, ◌⊎◌, inl, inr, ℕ, zero, suc, ◌+◌, ◌-◌, ◌*◌, ◌/◌, ◌%◌, ◌<◌, ◌≤◌, Bool, true, false, List, [], ◌∷◌, ◌++◌, length, take, drop, get_or, Ok, Err, refl, ap, sym, subst, ◌∙◌, append_assoc, arith, nat_lt, nat_le}
-use Rattle.std.specs.Prelude.{◌==◌, ◌&&◌}
+use Rattle.std.specs.Prelude.{◌==◌}
 use Rattle.std.proofs.lemmas.List.{append-nil}
-use Rattle.std.proofs.lemmas.Bool.{cases_lt}
+use Rattle.std.proofs.lemmas.Bool.{cases_lt, and_parts, leb-true, false_from_ne_true}
 use Rattle.std.proofs.lemmas.Bool.Decides.{nat_tests}
 use Rattle.sia_events.specs.Text.{numeral}
 use Rattle.sia_events.specs.declared.fault.Reason.TheVariants.{BadEvent}
@@ -15,19 +15,10 @@ pub digit_passes : (c : ℕ) → IsDigit c → is_digit c ≡ true
 digit_passes c d = let low : 48 ≤ c = d.0 in let high : c ≤ 57 = d.1 in grind (arith, nat_tests)
 
 passes_digit : (c : ℕ) → is_digit c ≡ true → IsDigit c
-passes_digit c p = by_tests (nat_le 48 c) (nat_le c 57) refl refl p
-  where
-    by_tests : (a b : Bool) → nat_le 48 c ≡ a → nat_le c 57 ≡ b → (a && b) ≡ true → IsDigit c
-    by_tests true true e f p = ((let low : 48 ≤ c = grind (arith, nat_tests) in low), (let high : c ≤ 57 = grind (arith, nat_tests) in high))
-    by_tests true false e f p = absurd cc
-    by_tests false b e f p = absurd cc
+passes_digit c p = let parts = and_parts (nat_le 48 c) (nat_le c 57) p in (leb-true 48 c parts.0, leb-true c 57 parts.1)
 
 stops_no_digit : (c : ℕ) → ¬ IsDigit c → is_digit c ≡ false
-stops_no_digit c n = by_test (is_digit c) refl
-  where
-    by_test : (b : Bool) → is_digit c ≡ b → is_digit c ≡ false
-    by_test true e = absurd (n (passes_digit c e))
-    by_test false e = e
+stops_no_digit c n = false_from_ne_true (is_digit c) (λ e. n (passes_digit c e))
 
 -- digits, and then no digit
 digits_len-append : (ds after : List ℕ) → AreDigits ds → StopsDigits after → digits_len (ds ++ after) ≡ length ds

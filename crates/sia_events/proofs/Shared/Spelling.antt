@@ -1,5 +1,5 @@
 -- An event has a spelling of its own.
-use Rattle.std.proofs.Common.{◌≡◌, ℕ, ◌<◌, Option, Some, None, List, [], ◌∷◌, ◌++◌, map, refl, ap, sym, ◌∙◌, arith, append_assoc, codes}
+use Rattle.std.proofs.Common.{◌≡◌, ℕ, ◌<◌, Option, Some, None, List, [], ◌∷◌, ◌++◌, map, refl, ap, sym, ◌∙◌, arith, append_assoc, rules}
 use Rattle.std.specs.List.{join_with_byte}
 use Rattle.std.proofs.lemmas.List.{append-nil}
 use Rattle.sia_events.specs.declared.event.Event.{Event}
@@ -36,20 +36,13 @@ pairs_regrouped p (q ∷ ps) after =
     simp append_assoc (ap (λ (xs : List ℕ). numeral p.0 ++ (58 ∷ (numeral p.1 ++ (44 ∷ xs)))) h)
 
 list_regrouped : (listed : List (ℕ × ℕ)) → spell_list listed ++ (93 ∷ []) ≡ list_text listed
-list_regrouped [] = refl
-list_regrouped (p ∷ ps) = ap (λ (xs : List ℕ). 59 ∷ xs) (pairs_regrouped p ps (93 ∷ []))
+list_regrouped q0 = search (rules, pairs_regrouped)
 
 seven : (a b c d e f g : List ℕ) → a ++ b ++ c ++ (d ++ e ++ f) ++ g ≡ a ++ (b ++ (c ++ (d ++ (e ++ (f ++ g)))))
 seven a b c d e f g = simp append_assoc
 
 pub regrouped : (e : Event) → spell e ≡ event_text e
-regrouped (Begin t None) = refl
-regrouped (Begin t (Some n)) = ap (λ (xs : List ℕ). 98 ∷ (numeral t ++ (64 ∷ xs))) (sym (append-nil (numeral n)))
-regrouped (Read t k v) = seven (codes "r") (numeral t) (codes "[") (numeral k) (codes ":") (numeral v) (codes "]")
-regrouped (Range t lo hi listed) = simp append_assoc (ap (λ (xs : List ℕ). 114 ∷ (numeral t ++ (91 ∷ (numeral lo ++ (46 ∷ 46 ∷ (numeral hi ++ xs)))))) (list_regrouped listed))
-regrouped (Write t k) = simp append_assoc
-regrouped (Commit t) = ap (λ (xs : List ℕ). 99 ∷ xs) (sym (append-nil (numeral t)))
-regrouped (Abort t) = ap (λ (xs : List ℕ). 97 ∷ xs) (sym (append-nil (numeral t)))
+regrouped q0 = search (rules, append-nil, seven, append_assoc, list_regrouped)
 
 above_digits : (c : ℕ) → 57 < c → ¬ IsDigit c
 above_digits c above d = omega arith
@@ -61,7 +54,6 @@ below_digits c below d = omega arith
 split_before : (m n c d : ℕ) (x y : List ℕ) → ¬ IsDigit c → ¬ IsDigit d → numeral m ++ (c ∷ x) ≡ numeral n ++ (d ∷ y) → (m ≡ n) × (c ≡ d) × (x ≡ y)
 split_before m n c d x y nc nd e =
     let h = split_numeral m n (c ∷ x) (d ∷ y) nc nd e in
-    let t = h.1 in
     (h.0, (let p : c ≡ d = cc in p), (let q : x ≡ y = cc in q))
 
 pub colon : ¬ IsDigit 58
@@ -89,9 +81,7 @@ one_list p q [] [] e =
     λ i. (a i, b i) ∷ []
 one_list p q [] (d ∷ qs) e =
     let k = split_before p.0 q.0 58 58 _ _ colon colon e in
-    let rest : numeral p.1 ++ (93 ∷ []) ≡ numeral q.1 ++ (44 ∷ pairs_text d qs (93 ∷ [])) = k.2 in
-    let v = split_before p.1 q.1 93 44 _ _ bracket comma rest in
-    let t : ◌≡◌ {A = ℕ} 93 44 = v.1 in absurd (omega arith)
+    search (rules, split_before, bracket, comma)
 one_list p q (c ∷ ps) [] e =
     let k = split_before p.0 q.0 58 58 _ _ colon colon e in
     let rest : numeral p.1 ++ (44 ∷ pairs_text c ps (93 ∷ [])) ≡ numeral q.1 ++ (93 ∷ []) = k.2 in
@@ -107,14 +97,10 @@ one_list p q (c ∷ ps) (d ∷ qs) e =
     λ i. (a i, b i) ∷ h i
 
 one_listed : (ps qs : List (ℕ × ℕ)) → list_text ps ≡ list_text qs → ps ≡ qs
-one_listed [] [] e = refl
-one_listed [] (q ∷ qs) e = cc
-one_listed (p ∷ ps) [] e = cc
-one_listed (p ∷ ps) (q ∷ qs) e = one_list p q ps qs (let t : pairs_text p ps (93 ∷ []) ≡ pairs_text q qs (93 ∷ []) = cc in t)
+one_listed q0 q1 e = search (rules, one_list)
 
 list_stops : (ps : List (ℕ × ℕ)) → StopsDigits (list_text ps)
-list_stops [] = bracket
-list_stops (p ∷ ps) = above_digits 59 (omega arith)
+list_stops q0 = search (rules, bracket, above_digits)
 
 -- after the transaction: the event's letter and number are told
 one_actor : (t u c : ℕ) (x y : List ℕ) → StopsDigits x → StopsDigits y → ◌≡◌ {A = List ℕ} (c ∷ (numeral t ++ x)) (c ∷ (numeral u ++ y)) → (t ≡ u) × (x ≡ y)
@@ -127,8 +113,7 @@ pub at_sign : ¬ IsDigit 64
 at_sign = above_digits 64 (omega arith)
 
 start_stops : (start : Option ℕ) → StopsDigits (start_text start)
-start_stops None = tt
-start_stops (Some n) = at_sign
+start_stops q0 = search (rules, at_sign)
 
 -- a named start is told by its text
 one_start : (a b : Option ℕ) → start_text a ≡ start_text b → a ≡ b
@@ -144,8 +129,7 @@ letter_of (c ∷ cs) = c
 one_event : (e f : Event) → event_text e ≡ event_text f → e ≡ f
 one_event (Begin t a) (Begin u b) p =
     let h = one_actor t u 98 (start_text a) (start_text b) (start_stops a) (start_stops b) p in
-    let x = h.0 in let y = one_start a b h.1 in
-    λ i. Begin (x i) (y i)
+    search (rules, one_start)
 one_event (Commit t) (Commit u) p = ap Commit (one_actor t u 99 [] [] tt tt p).0
 one_event (Abort t) (Abort u) p = ap Abort (one_actor t u 97 [] [] tt tt p).0
 one_event (Write t k) (Write u j) p =

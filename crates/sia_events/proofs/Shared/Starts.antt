@@ -1,9 +1,8 @@
 -- A transaction has one first event, and one start.
-use Rattle.std.proofs.Common.{◌≡◌, ℕ, ◌+◌, ◌<◌, ◌≤◌, List, Option, Some, None, ap, sym, subst, ◌∙◌, arith}
+use Rattle.std.proofs.Common.{◌≡◌, ℕ, ◌+◌, ◌≤◌, List, Option, Some, None, ap, sym, subst, ◌∙◌, arith, rules}
 use Rattle.std.specs.Prelude.{MatchOption}
 use Rattle.std.proofs.lemmas.Option.{same_Some}
 use Rattle.sia_events.specs.declared.event.Event.{Event}
-use Rattle.sia_events.specs.declared.event.Event.TheVariants.{Commit}
 use Rattle.sia_events.specs.Places.{at_place}
 use Rattle.sia_events.specs.Events.{named_start}
 use Rattle.sia_events.specs.Transactions.{IsFirstEvent, StartsAt, Sees}
@@ -18,8 +17,7 @@ pub one_first : (h : List Event) (t p q : ℕ) (e f : Event) → IsFirstEvent h 
 one_first h t p q e f a b =
     let below : p ≤ q = a.2 q (f, b.0, b.1) in
     let above : q ≤ p = b.2 p (e, a.0, a.1) in
-    let same : p ≡ q = omega arith in
-    (same, one_event h p q e f same a.0 b.0)
+    search (rules, one_event)
 
 -- a transaction has one start
 pub one_start : (h : List Event) (t s r : ℕ) → StartsAt h t s → StartsAt h t r → s ≡ r
@@ -35,6 +33,4 @@ one_start h t s r a b =
 pub none_seen_from_zero : (h : List Event) (t u : ℕ) → StartsAt h t 0 → ¬ Sees h t u
 none_seen_from_zero h t u start sees =
     let zero : sees.0 ≡ 0 = one_start h t sees.0 0 sees.2 start in
-    let above : 0 < sees.1 = (place_within h sees.1 (Commit u) sees.3).0 in
-    let below : sees.1 ≤ sees.0 = sees.4 in
-    omega arith
+    search (rules, place_within)

@@ -9,7 +9,7 @@ use Rattle.sia_events.specs.declared.event.Event.TheVariants.{Write, Commit, Abo
 use Rattle.sia_events.specs.Places.{at_place}
 use Rattle.sia_events.specs.Events.{actor, named_start}
 use Rattle.sia_events.specs.Transactions.{ActsAt, HasEvent, IsFirstEvent, StartsAt, IsCommitted, IsAborted, IsOpen, WritesAt, Wrote, WroteBefore}
-use Rattle.sia_events.proofs.Shared.Decisions.{Decided, first_below, same_option, same_event}
+use Rattle.sia_events.proofs.Shared.Decisions.{all_three, denied, Decided, first_below, same_option, same_event}
 
 -- an event stands at a place from 1 to the number of events
 pub place_within : {A : Type 0} (h : List A) (p : ℕ) (e : A) → at_place h p ≡ Some e → (0 < p) × (p ≤ length h)
@@ -89,10 +89,4 @@ has_start h t has = let first = has_first h t has in of_first first.0 first.1 fi
         (named.0, (p, e, first, named.1))
 
 pub open_or_not : (h : List Event) (t : ℕ) → Decided (IsOpen h t)
-open_or_not h t = of_three (has_event_or_not h t) (committed_or_not h t) (aborted_or_not h t)
-  where
-    of_three : Decided (HasEvent h t) → Decided (IsCommitted h t) → Decided (IsAborted h t) → Decided (IsOpen h t)
-    of_three (inr none) c a = inr (λ is. none is.0)
-    of_three (inl has) (inl c) a = inr (λ is. is.1 c)
-    of_three (inl has) (inr c) (inl a) = inr (λ is. is.2 a)
-    of_three (inl has) (inr c) (inr a) = inl (has, c, a)
+open_or_not h t = all_three (HasEvent h t) (¬ IsCommitted h t) (¬ IsAborted h t) (has_event_or_not h t) (denied (IsCommitted h t) (committed_or_not h t)) (denied (IsAborted h t) (aborted_or_not h t))

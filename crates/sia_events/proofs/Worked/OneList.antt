@@ -1,8 +1,9 @@
 -- A list in order is told by what it holds.
-use Rattle.std.proofs.Common.{◌≡◌, ◌⊎◌, inl, inr, ℕ, zero, suc, ◌<◌, ◌≤◌, List, [], ◌∷◌, length, refl, ap, sym, subst, ◌∙◌, arith}
-use Rattle.std.specs.Prelude.{AllPairs, Contains, slice_index_or}
+use Rattle.std.proofs.Common.{◌≡◌, ◌⊎◌, inl, inr, ℕ, suc, ◌<◌, ◌≤◌, List, [], ◌∷◌, length, refl, ap, sym, subst, ◌∙◌, arith}
+use Rattle.std.specs.Prelude.{AllPairs, Contains}
 use Rattle.std.proofs.lemmas.Bool.{cases_lt}
 use Rattle.sia_events.specs.Lists.{Precedes, ListsBy, CountsAll}
+use Rattle.sia_events.proofs.OfLaws.SawDecisions.{contains_cases, contains_later}
 
 -- no two lists are each before the other
 pub Precedes-asym : (xs ys : List ℕ) → Precedes xs ys → ¬ Precedes ys xs
@@ -29,18 +30,8 @@ Precedes-total (x ∷ xs) (y ∷ ys) = by_first (cases_lt x y) (cases_lt y x) (P
     by_first (inr a) (inr b) (inr (inr p)) = inr (inr (inr (omega arith, p)))
 
 module _ {A : Type 0} (R : A → A → Type 0) (asym : (x y : A) → R x y → ¬ R y x) where
-  first_or_later : (x z : A) (xs : List A) → Contains (x ∷ xs) z → (x ≡ z) ⊎ Contains xs z
-  first_or_later x z xs c = by_index c.0 c.1 c.2
-    where
-      by_index : (k : ℕ) → k < length (x ∷ xs) → slice_index_or (x ∷ xs) k z ≡ z → (x ≡ z) ⊎ Contains xs z
-      by_index zero below e = inl e
-      by_index (suc k) below e = inr (k, omega arith, e)
-
   contains_first : (x : A) (xs : List A) → Contains (x ∷ xs) x
   contains_first x xs = (0, omega arith, refl)
-
-  contains_later : (x z : A) (xs : List A) → Contains xs z → Contains (x ∷ xs) z
-  contains_later x z xs c = (suc c.0, omega arith, c.2)
 
   first_before : (x z : A) (xs : List A) → AllPairs R (x ∷ xs) → Contains xs z → R x z
   first_before x z xs p c = subst (R x) c.2 (p 0 (suc c.0) z (omega arith) (let b = c.1 in omega arith))
@@ -53,18 +44,18 @@ module _ {A : Type 0} (R : A → A → Type 0) (asym : (x y : A) → R x y → �
   same_lists [] (y ∷ ys) p q f g = let c = g y (contains_first y ys) in absurd (let b = c.1 in omega arith)
   same_lists (x ∷ xs) [] p q f g = let c = f x (contains_first x xs) in absurd (let b = c.1 in omega arith)
   same_lists (x ∷ xs) (y ∷ ys) p q f g =
-      let first : x ≡ y = elim (first_or_later y x ys (f x (contains_first x xs))) [
+      let first : x ≡ y = elim (contains_cases y x ys (f x (contains_first x xs))) [
         | inl e ↦ sym e
-        | inr c ↦ elim (first_or_later x y xs (g y (contains_first y ys))) [
+        | inr c ↦ elim (contains_cases x y xs (g y (contains_first y ys))) [
           | inl e ↦ e
           | inr d ↦ absurd (asym x y (first_before x y xs p d) (first_before y x ys q c))
         ]
       ] in
-      let into : (z : A) → Contains xs z → Contains ys z = λ z c. elim (first_or_later y z ys (f z (contains_later x z xs c))) [
+      let into : (z : A) → Contains xs z → Contains ys z = λ z c. elim (contains_cases y z ys (f z (contains_later x z xs c))) [
         | inl e ↦ let r : R x x = subst (R x) (sym (first ∙ e)) (first_before x z xs p c) in absurd (asym x x r r)
         | inr d ↦ d
       ] in
-      let back : (z : A) → Contains ys z → Contains xs z = λ z c. elim (first_or_later x z xs (g z (contains_later y z ys c))) [
+      let back : (z : A) → Contains ys z → Contains xs z = λ z c. elim (contains_cases x z xs (g z (contains_later y z ys c))) [
         | inl e ↦ let r : R y y = subst (R y) (sym (sym first ∙ e)) (first_before y z ys q c) in absurd (asym y y r r)
         | inr d ↦ d
       ] in

@@ -1,14 +1,19 @@
 -- Edges and pivots of worked histories.
-use Rattle.std.proofs.Common.{◌≡◌, inl, inr, ℕ, ◌<◌, ◌≤◌, List, [], ◌∷◌, codes, refl, subst, ◌∙◌, arith}
+use Rattle.std.proofs.Common.{◌≡◌, ◌≢◌, Some, inl, inr, ℕ, ◌<◌, ◌≤◌, List, [], ◌∷◌, codes, refl, subst, ◌∙◌, arith}
 use Rattle.sia_events.specs.declared.event.Event.{Event}
 use Rattle.sia_events.specs.declared.event.Event.TheVariants.{Read, Write, Commit}
 use Rattle.sia_events.specs.Text.{numeral, canonical}
+use Rattle.sia_events.specs.Places.{at_place}
 use Rattle.sia_events.specs.Transactions.{CommitsAt, StartsAt, WritesAt, Overlap, StartsBeforeCommit}
 use Rattle.sia_events.specs.Reads.{SawAt}
 use Rattle.sia_events.specs.Dependencies.{RwEdge}
 use Rattle.sia_events.specs.DangerousStructures.{IsVulnerable, IsPivot, IsFirst}
 use Rattle.sia_events.proofs.Shared.Starts.{one_start}
 use Rattle.sia_events.proofs.Shared.EventTests.{starts_before, not_wrote, one_writer, one_reader, one_key_read, one_key_written, commits_up_to, commits_after}
+
+-- who read version 0 of a key that another transaction wrote and committed
+reads_zero : (h : List Event) (t u k c w d p : ℕ) → t ≢ u → CommitsAt h t c → WritesAt h u k w → CommitsAt h u d → at_place h p ≡ Some (Read t k 0) → 0 ≢ t → RwEdge h t u k
+reads_zero h t u k c w d p others ends writes commits reads real = (others, (c, ends), ((w, writes), (d, commits)), p, 0, (Read t k 0, reads, refl, (refl, refl)), inl refl, real, inl (refl, ((w, writes), (d, commits))))
 
 -- transaction 2 reads two keys while 1 changes both
 abbrev pub read_during_change : List Event
@@ -19,17 +24,7 @@ unfolding numeral
 read_during_change_text = refl
 
 reader_before_changer : RwEdge read_during_change 2 1 1
-reader_before_changer = (
-  (λ e. omega arith),
-  (5, refl),
-  ((2, refl), (8, refl)),
-  3,
-  0,
-  (Read 2 1 0, refl, refl, (refl, refl)),
-  inl refl,
-  (λ e. omega arith),
-  inl (refl, ((2, refl), (8, refl))),
-)
+reader_before_changer = reads_zero read_during_change 2 1 1 5 2 8 3 (λ e. omega arith) refl refl refl refl (λ e. omega arith)
 
 -- 2 wrote nothing, so no edge leads to it
 none_to_reader : ¬ RwEdge read_during_change 1 2 1
@@ -50,30 +45,10 @@ unfolding numeral
 early_writer_text = refl
 
 edge_to_middle : RwEdge early_writer 1 2 2
-edge_to_middle = (
-  (λ e. omega arith),
-  (7, refl),
-  ((5, refl), (6, refl)),
-  4,
-  0,
-  (Read 1 2 0, refl, refl, (refl, refl)),
-  inl refl,
-  (λ e. omega arith),
-  inl (refl, ((5, refl), (6, refl))),
-)
+edge_to_middle = reads_zero early_writer 1 2 2 7 5 6 4 (λ e. omega arith) refl refl refl refl (λ e. omega arith)
 
 edge_to_early : RwEdge early_writer 2 3 1
-edge_to_early = (
-  (λ e. omega arith),
-  (6, refl),
-  ((1, refl), (2, refl)),
-  3,
-  0,
-  (Read 2 1 0, refl, refl, (refl, refl)),
-  inl refl,
-  (λ e. omega arith),
-  inl (refl, ((1, refl), (2, refl))),
-)
+edge_to_early = reads_zero early_writer 2 3 1 6 1 2 3 (λ e. omega arith) refl refl refl refl (λ e. omega arith)
 
 middle_after_early : ¬ StartsBeforeCommit early_writer 2 3
 middle_after_early b =
@@ -112,17 +87,7 @@ vulnerable_in = (
     (1, 5, start_of_middle, refl, omega arith),
   ),
   1,
-  (
-    (λ e. omega arith),
-    (5, refl),
-    ((3, refl), (7, refl)),
-    1,
-    0,
-    (Read 1 1 0, refl, refl, (refl, refl)),
-    inl refl,
-    (λ e. omega arith),
-    inl (refl, ((3, refl), (7, refl))),
-  ),
+  reads_zero first_commits_first 1 2 1 5 3 7 1 (λ e. omega arith) refl refl refl refl (λ e. omega arith),
 )
 
 vulnerable_out : IsVulnerable first_commits_first 2 3
@@ -132,17 +97,7 @@ vulnerable_out = (
     (3, 7, starts_before first_commits_first 3 3 (Write 3 2) refl refl refl refl, refl, omega arith),
   ),
   2,
-  (
-    (λ e. omega arith),
-    (7, refl),
-    ((4, refl), (6, refl)),
-    2,
-    0,
-    (Read 2 2 0, refl, refl, (refl, refl)),
-    inl refl,
-    (λ e. omega arith),
-    inl (refl, ((4, refl), (6, refl))),
-  ),
+  reads_zero first_commits_first 2 3 2 7 4 6 2 (λ e. omega arith) refl refl refl refl (λ e. omega arith),
 )
 
 middle_is_pivot : IsPivot first_commits_first 2

@@ -1,8 +1,8 @@
 -- A range read of a well-formed history: its bounds and its listed keys are in order, and it sees each key at one version.
-use Rattle.std.proofs.Common.{◌≡◌, ◌⊎◌, inl, inr, ℕ, ◌+◌, ◌<◌, ◌≤◌, List, map, length, Some, refl, ap, sym, ◌∙◌, subst, arith}
-use Rattle.std.specs.Prelude.{Contains, slice_index, slice_index_or}
+use Rattle.std.proofs.Common.{◌≡◌, ◌⊎◌, inl, inr, ℕ, ◌<◌, ◌≤◌, List, map, length, Some, refl, ap, sym, ◌∙◌, subst, arith}
+use Rattle.std.specs.Prelude.{Contains, slice_index_or}
 use Rattle.std.specs.List.Sorted.{IsStrictlyIncreasing}
-use Rattle.std.proofs.lemmas.Bool.{cases_order}
+use Rattle.std.proofs.lemmas.Bool.{cases_order, cases_Bool}
 use Rattle.std.proofs.lemmas.List.{get_or-map, get_or_default, length-map}
 use Rattle.std.proofs.lemmas.List.Kept.{AllPairs-from_increasing}
 use Rattle.sia_events.specs.declared.event.Event.{Event}
@@ -12,27 +12,21 @@ use Rattle.sia_events.specs.Places.{at_place}
 use Rattle.sia_events.specs.Events.{Saw}
 use Rattle.sia_events.specs.Refusals.{IsGoodList, IsWellFormed}
 use Rattle.sia_events.proofs.Shared.Decisions.{at_most}
-use Rattle.sia_events.proofs.Writing.WellFormed.{below_or, event_has_none}
+use Rattle.sia_events.specs.Known.{goes_up}
+use Rattle.sia_events.proofs.Shared.Faults.{good_list, true_false}
+use Rattle.sia_events.proofs.Shared.LeastFaults.{list_goes_up}
+use Rattle.sia_events.proofs.Writing.WellFormed.{event_has_none}
 
 -- the bounds of a range read are in order
 pub bounds_in_order : (h : List Event) → IsWellFormed h → (p t lo hi : ℕ) (listed : List (ℕ × ℕ)) → at_place h p ≡ Some (Range t lo hi listed) → lo ≤ hi
 bounds_in_order h wf p t lo hi listed at = at_most lo hi (λ less. event_has_none h wf p (Range t lo hi listed) at EmptyRange (lo, hi, listed, refl, less))
 
-at_most_or : (m n : ℕ) → ¬ ¬ (m ≤ n) → m ≤ n
-at_most_or m n h = at_most m n (λ less. h (λ most. omega arith))
-
-good_list_or : (lo hi : ℕ) (listed : List (ℕ × ℕ)) → ¬ ¬ IsGoodList lo hi listed → IsGoodList lo hi listed
-good_list_or lo hi listed n = (
-  λ k d below. (
-    at_most_or lo (slice_index_or listed k d).0 (λ m. n (λ g. m (g.0 k d below).0)),
-    at_most_or (slice_index_or listed k d).0 hi (λ m. n (λ g. m (g.0 k d below).1)),
-  ),
-  λ k below. below_or (slice_index (map (λ p. p.0) listed) k) (slice_index (map (λ p. p.0) listed) (k + 1)) (λ m. n (λ g. m (g.1 k below))),
-)
-
 -- its listed keys lie within its bounds, and ascend
 pub list_in_order : (h : List Event) → IsWellFormed h → (p t lo hi : ℕ) (listed : List (ℕ × ℕ)) → at_place h p ≡ Some (Range t lo hi listed) → IsGoodList lo hi listed
-list_in_order h wf p t lo hi listed at = good_list_or lo hi listed (λ bad. event_has_none h wf p (Range t lo hi listed) at BadList (lo, hi, listed, refl, bad))
+list_in_order h wf p t lo hi listed at = elim (cases_Bool (goes_up lo hi listed)) [
+  | inl up ↦ good_list lo hi listed up
+  | inr down ↦ absurd (event_has_none h wf p (Range t lo hi listed) at BadList (lo, hi, listed, refl, λ good. true_false (goes_up lo hi listed) (list_goes_up lo hi listed good) down))
+]
 
 -- a listed key's place has the key
 key_at : (listed : List (ℕ × ℕ)) (k v : ℕ) (c : Contains listed (k, v)) → slice_index_or (map (λ p. p.0) listed) c.0 0 ≡ k

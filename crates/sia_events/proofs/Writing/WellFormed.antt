@@ -1,24 +1,24 @@
 -- What an accepted text and a well-formed history keep.
-use Rattle.std.proofs.Common.{◌≡◌, ◌≢◌, inl, inr, ℕ, zero, suc, ◌+◌, ◌-◌, ◌^◌, ◌<◌, ◌≤◌, List, [], ◌∷◌, map, length, slice_get, Option, Some, None, refl, ap, sym, subst, ◌∙◌, arith}
+use Rattle.std.proofs.Common.{◌≡◌, ◌≢◌, inl, inr, ℕ, zero, suc, ◌+◌, ◌-◌, ◌<◌, ◌≤◌, List, [], ◌∷◌, map, length, slice_get, Option, Some, None, refl, ap, sym, subst, ◌∙◌, arith}
 use Rattle.std.proofs.lemmas.Bool.{cases_lt}
 use Rattle.std.proofs.lemmas.List.{length-map}
 use Rattle.std.proofs.lemmas.Option.{slice_get-map}
 use Rattle.std.specs.Option.{option_map}
-use Rattle.std.specs.Prelude.{slice_index_or}
 use Rattle.sia_events.specs.Limits.{Limits, greatest}
 use Rattle.sia_events.specs.declared.event.Event.{Event}
-use Rattle.sia_events.specs.declared.event.Event.TheVariants.{Begin, Read, Range, Write, Commit, Abort}
+use Rattle.sia_events.specs.declared.event.Event.TheVariants.{Write, Commit, Abort}
 use Rattle.sia_events.specs.declared.fault.Reason.{Reason}
 use Rattle.sia_events.specs.declared.fault.Reason.TheVariants.{TooManyEvents, BadEvent, BadNumber, AlreadyEnded, AlreadyBegun, NotWritten}
 use Rattle.sia_events.specs.declared.fault.TextFault.TheVariants.{TextTooLong, Refused}
 use Rattle.sia_events.specs.Places.{at_place}
 use Rattle.sia_events.specs.Events.{actor, Saw}
 use Rattle.sia_events.specs.Text.{spell, tokens, canonical}
-use Rattle.sia_events.specs.Refusals.{IsTxn, IsStart, IsInRange, reason_number, HasReason, HasReasonIn, TokenHas, EventHas, IsEarlier, IsFirstFaultIn, IsAccepted, IsAcceptedIn, AnyForm, IsWellFormed}
+use Rattle.sia_events.specs.Refusals.{IsInRange, reason_number, HasReason, HasReasonIn, TokenHas, EventHas, IsEarlier, IsFirstFaultIn, IsAccepted, IsAcceptedIn, AnyForm, IsWellFormed}
 use Rattle.sia_events.proofs.Shared.Spelling.{spell_injective}
 use Rattle.sia_events.proofs.Shared.Canonical.{canonical_stands}
 use Rattle.sia_events.proofs.Shared.Decisions.{Decided, at_most}
 use Rattle.sia_events.proofs.Shared.TransactionDecisions.{wrote_before_or_not}
+use Rattle.sia_events.proofs.Shared.EventCases.{ranges_cases}
 
 numbers_below : (r : Reason) → reason_number r < 11
 numbers_below TooManyEvents = omega arith
@@ -147,30 +147,6 @@ seen_was_written h wf i k v e at saw v0 = elim (before_or_not h i v k) [
   | inr n ↦ absurd (event_has_none h wf i e at NotWritten (k, v, saw, v0, n))
 ]
 
--- what isn't refuted of two numbers holds
-pub below_or : (m n : ℕ) → ¬ ¬ (m < n) → m < n
-below_or m n h = elim (cases_lt m n) [ inl less ↦ less | inr more ↦ absurd (h (λ less. omega arith)) ]
-
-txn_range : (t : ℕ) → ¬ ¬ IsTxn t → IsTxn t
-txn_range t n = (below_or 0 t (λ m. n (λ r. m r.0)), below_or t (2 ^ 32) (λ m. n (λ r. m r.1)))
-
-start_range : (start : Option ℕ) → ¬ ¬ IsStart start → IsStart start
-start_range None n = tt
-start_range (Some m) n = below_or m (2 ^ 32) n
-
 -- the numbers of a well-formed history's events are in their ranges
-in_range : (e : Event) → ¬ ¬ IsInRange e → IsInRange e
-in_range (Begin t start) n = (txn_range t (λ m. n (λ r. m r.0)), start_range start (λ m. n (λ r. m r.1)))
-in_range (Read t k v) n = (txn_range t (λ m. n (λ r. m r.0)), below_or k (2 ^ 64) (λ m. n (λ r. m r.1)), below_or v (2 ^ 32) (λ m. n (λ r. m r.2)))
-in_range (Range t lo hi listed) n = (
-  txn_range t (λ m. n (λ r. m r.0)),
-  below_or lo (2 ^ 64) (λ m. n (λ r. m r.1)),
-  below_or hi (2 ^ 64) (λ m. n (λ r. m r.2)),
-  λ k d below. (below_or (slice_index_or listed k d).0 (2 ^ 64) (λ m. n (λ r. m (r.3 k d below).0)), below_or (slice_index_or listed k d).1 (2 ^ 32) (λ m. n (λ r. m (r.3 k d below).1))),
-)
-in_range (Write t k) n = (txn_range t (λ m. n (λ r. m r.0)), below_or k (2 ^ 64) (λ m. n (λ r. m r.1)))
-in_range (Commit t) n = txn_range t n
-in_range (Abort t) n = txn_range t n
-
 pub event_in_range : (h : List Event) → IsWellFormed h → (i : ℕ) (e : Event) → at_place h i ≡ Some e → IsInRange e
-event_in_range h wf i e at = in_range e (event_has_none h wf i e at BadNumber)
+event_in_range h wf i e at = elim (ranges_cases e) [ inl r ↦ r.1 | inr r ↦ absurd (event_has_none h wf i e at BadNumber r.1) ]
