@@ -1,5 +1,5 @@
 -- Each event's spelling is read to it, or to a number out of range.
-use Rattle.std.proofs.Common.{◌≡◌, ◌⊎◌, inl, inr, ℕ, zero, suc, ◌+◌, ◌<◌, ◌≤◌, List, [], ◌∷◌, ◌++◌, length, Option, Some, None, Result, Ok, refl, ap, ◌∙◌, arith}
+use Rattle.std.proofs.Common.{sym, ◌≡◌, ◌⊎◌, inl, inr, ℕ, zero, suc, ◌+◌, ◌<◌, ◌≤◌, List, [], ◌∷◌, ◌++◌, length, Option, Some, None, Result, Ok, refl, ap, ◌∙◌, arith}
 use Rattle.std.proofs.lemmas.List.{length-append}
 use Rattle.sia_events.specs.Text.{numeral, spell}
 use Rattle.sia_events.specs.declared.event.Event.{Event}
@@ -8,8 +8,8 @@ use Rattle.sia_events.specs.declared.fault.Reason.{Reason}
 use Rattle.sia_events.specs.Parsing.{◌>>=◌, narrow, number_at, after_byte, ended, key_of, version_of, txn_of, begin_at, write_at, item_at, pair_at, joined, one_pair, pairs_within, pairs_at, list_at, list_of, range_at, read_at, commit_at, abort_at, event_at}
 use Rattle.sia_events.proofs.Shared.Numerals.{IsDigit}
 use Rattle.sia_events.proofs.Shared.NumberLaws.{number_again}
-use Rattle.sia_events.proofs.Shared.Spelling.{pairs_text, list_text, event_text, regrouped, open_bracket, bracket, colon, comma, dot, at_sign}
-use Rattle.sia_events.proofs.Shared.EventLaws.{narrow_pair, narrow_list}
+use Rattle.sia_events.proofs.Shared.Spelling.{above_digits, pairs_text, list_text, event_text, regrouped, open_bracket, bracket, colon, comma, dot, at_sign}
+use Rattle.sia_events.proofs.Shared.EventLaws.{joined_none, narrow_pair, narrow_list}
 
 -- the event with each number in its range, or the reason that one isn't
 abbrev pub in_ranges : Event → Result Event Reason
@@ -21,12 +21,8 @@ in_ranges (Write t k) = txn_of (narrow t) >>= λ u. (key_of (narrow k) >>= λ j.
 in_ranges (Commit t) = txn_of (narrow t) >>= λ u. Ok (Commit u)
 in_ranges (Abort t) = txn_of (narrow t) >>= λ u. Ok (Abort u)
 
-no_digit : (c : ℕ) → (c < 48) ⊎ (57 < c) → ¬ IsDigit c
-no_digit c (inl below) d = let low : 48 ≤ c = d.0 in omega arith
-no_digit c (inr above) d = let high : c ≤ 57 = d.1 in omega arith
-
 semicolon : ¬ IsDigit 59
-semicolon = no_digit 59 (inr (omega arith))
+semicolon = above_digits 59 (omega arith)
 
 pair_again : (p : ℕ × ℕ) (c : ℕ) (rest : List ℕ) → ¬ IsDigit c → pair_at (numeral p.0 ++ (58 ∷ (numeral p.1 ++ (c ∷ rest)))) ≡ Ok (narrow_pair p, c ∷ rest)
 unfolding pair_at after_byte
@@ -35,11 +31,7 @@ pair_again p c rest stops = rw (number_again p.0 (58 ∷ (numeral p.1 ++ (c ∷ 
 pairs_again : (p : ℕ × ℕ) (ps : List (ℕ × ℕ)) (rest : List ℕ) (m : ℕ) → length ps < m → pairs_within m (pairs_text p ps (93 ∷ rest)) ≡ Ok (narrow_list (p ∷ ps), 93 ∷ rest)
 unfolding pairs_within
 pairs_again p ps rest zero enough = absurd (omega arith)
-pairs_again p [] rest (suc m) enough = rw (pair_again p 93 rest bracket) (ap (λ qs. Ok (qs, 93 ∷ rest)) (alone (narrow_pair p)))
-  where
-    alone : (o : Option (ℕ × ℕ)) → one_pair o ≡ joined (one_pair o) (Some [])
-    alone None = refl
-    alone (Some q) = refl
+pairs_again p [] rest (suc m) enough = rw (pair_again p 93 rest bracket) (ap (λ qs. Ok (qs, 93 ∷ rest)) (sym (joined_none (narrow_pair p))))
 pairs_again p (q ∷ ps) rest (suc m) enough = rw (pair_again p 44 (pairs_text q ps (93 ∷ rest)) comma, pairs_again q ps rest m (omega arith)) refl
 
 -- each pair takes more than one byte

@@ -1,6 +1,6 @@
 -- What becomes of a token: it has no form, or it spells an event, whose numbers are in their ranges or not.
 use Rattle.std.proofs.Common.{◌≡◌, ◌≢◌, ◌⊎◌, inl, inr, ℕ, ◌<◌, ◌^◌, true, false, List, [], ◌∷◌, ◌++◌, Some, None, Result, Ok, Err, refl, ap, sym, ◌∙◌, arith, nat_lt}
-use Rattle.std.specs.Prelude.{◌==◌}
+use Rattle.std.specs.Prelude.{◌==◌, All}
 use Rattle.std.specs.List.{AllByRecursion}
 use Rattle.std.proofs.lemmas.Bool.{eqb-true, cases_lt, cases_Bool}
 use Rattle.std.proofs.lemmas.Bool.Decides.{nat_tests}
@@ -11,7 +11,7 @@ use Rattle.sia_events.specs.declared.event.Event.TheVariants.{Begin, Read, Range
 use Rattle.sia_events.specs.declared.fault.Reason.{Reason}
 use Rattle.sia_events.specs.declared.fault.Reason.TheVariants.{BadEvent, BadNumber}
 use Rattle.sia_events.specs.Refusals.{IsTxn, IsKey, IsVersion, IsStart, IsInRange}
-use Rattle.sia_events.specs.Parsing.{begin_at, read_at, write_at, commit_at, abort_at, narrow, key_of, version_of, txn_of, list_of, event_at}
+use Rattle.sia_events.specs.Parsing.{◌>>=◌, begin_at, read_at, write_at, commit_at, abort_at, narrow, key_of, version_of, txn_of, list_of, event_at}
 use Rattle.sia_events.proofs.Shared.Spelling.{event_text, regrouped}
 use Rattle.sia_events.proofs.TokensRead.Digits.{narrow_small, narrow_great}
 use Rattle.sia_events.proofs.Shared.EventLaws.{Lacks, number_then, also, narrow_pair, narrow_list, begin_sound, read_sound, write_sound, commit_sound, abort_sound}
@@ -109,57 +109,37 @@ HasRanges e = ((in_ranges e ≡ Ok e) × IsInRange e) ⊎ ((in_ranges e ≡ Err 
 start_cases : (n : ℕ) → ((version_of (narrow n) ≡ Ok n) × IsStart (Some n)) ⊎ ((version_of (narrow n) ≡ Err BadNumber) × ¬ IsStart (Some n))
 start_cases n = version_cases n
 
-pub ranges_cases : (e : Event) → HasRanges e
+-- a number that is kept if it is in its range, and what is read after it
+checked : {A B P Q : Type 0} (r : Result A Reason) (f : A → Result B Reason) (a : A) (b : B) → ((r ≡ Ok a) × P) ⊎ ((r ≡ Err BadNumber) × ¬ P) → (P → ((f a ≡ Ok b) × Q) ⊎ ((f a ≡ Err BadNumber) × ¬ Q)) → (Q → P) → ((r >>= f ≡ Ok b) × Q) ⊎ ((r >>= f ≡ Err BadNumber) × ¬ Q)
+checked r f a b (inl c) next part = elim (next c.1) [ inl g ↦ inl (rw c.0 g.0, g.1) | inr g ↦ inr (rw c.0 g.0, g.1) ]
+checked r f a b (inr c) next part = inr (rw c.0 refl, λ q. c.1 (part q))
+
+listed_cases : (ps : List (ℕ × ℕ)) → ((list_of (narrow_list ps) ≡ Ok ps) × All (λ p. IsKey p.0 × IsVersion p.1) ps) ⊎ ((list_of (narrow_list ps) ≡ Err BadNumber) × ¬ All (λ p. IsKey p.0 × IsVersion p.1) ps)
 unfolding list_of
-ranges_cases (Begin t None) = elim (txn_cases t) [
-  | inl a ↦ inl (rw a.0 refl, (a.1, tt))
-  | inr a ↦ inr (rw a.0 refl, λ is. a.1 is.0)
+listed_cases ps = elim (list_cases ps) [
+  | inl l ↦ inl (rw l.0 refl, All-from_recursion (λ p. IsKey p.0 × IsVersion p.1) ps l.1)
+  | inr l ↦ inr (rw l.0 refl, λ is. l.1 (recursion_from_All (λ p. IsKey p.0 × IsVersion p.1) ps is))
 ]
-ranges_cases (Begin t (Some n)) = elim (txn_cases t) [
-  | inl a ↦ elim (start_cases n) [
-    | inl b ↦ inl (rw (a.0, b.0) refl, (a.1, b.1))
-    | inr b ↦ inr (rw (a.0, b.0) refl, λ is. b.1 is.1)
-  ]
-  | inr a ↦ inr (rw a.0 refl, λ is. a.1 is.0)
-]
-ranges_cases (Read t k v) = elim (txn_cases t) [
-  | inl a ↦ elim (key_cases k) [
-    | inl b ↦ elim (version_cases v) [
-      | inl d ↦ inl (rw (a.0, b.0, d.0) refl, (a.1, b.1, d.1))
-      | inr d ↦ inr (rw (a.0, b.0, d.0) refl, λ is. d.1 is.2)
-    ]
-    | inr b ↦ inr (rw (a.0, b.0) refl, λ is. b.1 is.1)
-  ]
-  | inr a ↦ inr (rw a.0 refl, λ is. a.1 is.0)
-]
-ranges_cases (Range t lo hi listed) = elim (txn_cases t) [
-  | inl a ↦ elim (key_cases lo) [
-    | inl b ↦ elim (key_cases hi) [
-      | inl d ↦ elim (list_cases listed) [
-        | inl l ↦ inl (rw (a.0, b.0, d.0, l.0) refl, (a.1, b.1, d.1, All-from_recursion (λ p. IsKey p.0 × IsVersion p.1) listed l.1))
-        | inr l ↦ inr (rw (a.0, b.0, d.0, l.0) refl, λ is. l.1 (recursion_from_All (λ p. IsKey p.0 × IsVersion p.1) listed is.3))
-      ]
-      | inr d ↦ inr (rw (a.0, b.0, d.0) refl, λ is. d.1 is.2)
-    ]
-    | inr b ↦ inr (rw (a.0, b.0) refl, λ is. b.1 is.1)
-  ]
-  | inr a ↦ inr (rw a.0 refl, λ is. a.1 is.0)
-]
-ranges_cases (Write t k) = elim (txn_cases t) [
-  | inl a ↦ elim (key_cases k) [
-    | inl b ↦ inl (rw (a.0, b.0) refl, (a.1, b.1))
-    | inr b ↦ inr (rw (a.0, b.0) refl, λ is. b.1 is.1)
-  ]
-  | inr a ↦ inr (rw a.0 refl, λ is. a.1 is.0)
-]
-ranges_cases (Commit t) = elim (txn_cases t) [
-  | inl a ↦ inl (rw a.0 refl, a.1)
-  | inr a ↦ inr (rw a.0 refl, a.1)
-]
-ranges_cases (Abort t) = elim (txn_cases t) [
-  | inl a ↦ inl (rw a.0 refl, a.1)
-  | inr a ↦ inr (rw a.0 refl, a.1)
-]
+
+pub ranges_cases : (e : Event) → HasRanges e
+ranges_cases (Begin t None) = checked (txn_of (narrow t)) _ t _ (txn_cases t) (λ a. inl (refl, (a, tt))) (λ is. is.0)
+ranges_cases (Begin t (Some n)) =
+    checked (txn_of (narrow t)) _ t _ (txn_cases t) (λ a.
+    checked (version_of (narrow n)) _ n _ (start_cases n) (λ b. inl (refl, (a, b))) (λ is. is.1)) (λ is. is.0)
+ranges_cases (Read t k v) =
+    checked (txn_of (narrow t)) _ t _ (txn_cases t) (λ a.
+    checked (key_of (narrow k)) _ k _ (key_cases k) (λ b.
+    checked (version_of (narrow v)) _ v _ (version_cases v) (λ d. inl (refl, (a, b, d))) (λ is. is.2)) (λ is. is.1)) (λ is. is.0)
+ranges_cases (Range t lo hi listed) =
+    checked (txn_of (narrow t)) _ t _ (txn_cases t) (λ a.
+    checked (key_of (narrow lo)) _ lo _ (key_cases lo) (λ b.
+    checked (key_of (narrow hi)) _ hi _ (key_cases hi) (λ d.
+    checked (list_of (narrow_list listed)) _ listed _ (listed_cases listed) (λ l. inl (refl, (a, b, d, l))) (λ is. is.3)) (λ is. is.2)) (λ is. is.1)) (λ is. is.0)
+ranges_cases (Write t k) =
+    checked (txn_of (narrow t)) _ t _ (txn_cases t) (λ a.
+    checked (key_of (narrow k)) _ k _ (key_cases k) (λ b. inl (refl, (a, b))) (λ is. is.1)) (λ is. is.0)
+ranges_cases (Commit t) = checked (txn_of (narrow t)) _ t _ (txn_cases t) (λ a. inl (refl, a)) (λ is. is)
+ranges_cases (Abort t) = checked (txn_of (narrow t)) _ t _ (txn_cases t) (λ a. inl (refl, a)) (λ is. is)
 
 -- ---- what becomes of a token
 

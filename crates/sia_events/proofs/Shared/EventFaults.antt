@@ -45,14 +45,11 @@ begin_least events n t (Some m) r fits open_still e = elim (found (list_any (act
 ]
   where
     least : list_any (acts t) events ≡ false → (s : Reason) → EventHas n (IsAmong events) (Begin t (Some m)) s → 10 ≤ reason_number s
-    least fresh BadNumber has = absurd (has fits)
-    least fresh AlreadyEnded has = (let low : 6 ≤ 5 = lower_reasons n events (Begin t (Some m)) fits open_still AlreadyEnded has in absurd (omega arith))
     least fresh AlreadyBegun has = absurd (none_acts events t fresh has.1 has.2 has.3)
     least fresh EmptyRange has = (let is = has.3 in cc)
     least fresh BadList has = (let is = has.3 in cc)
     least fresh NotWritten has = absurd has.2
-    least fresh BadStart has = omega arith
-    least fresh _ has = absurd has
+    least fresh s has = let low : 6 ≤ reason_number s = lower_reasons n events (Begin t (Some m)) fits open_still s has in omega arith
 
 read_least : (events : List Event) (n t k v : ℕ) (r : Reason) → IsInRange (Read t k v) → list_any (ends t) events ≡ false → read_fault events k v ≡ Some r → IsLeast n events (Read t k v) r
 unfolding read_fault
@@ -62,24 +59,16 @@ read_least events n t k v r fits open_still e = elim (found_else (is_explained e
 ]
   where
     least : (s : Reason) → EventHas n (IsAmong events) (Read t k v) s → 9 ≤ reason_number s
-    least BadNumber has = absurd (has fits)
-    least AlreadyEnded has = (let low : 6 ≤ 5 = lower_reasons n events (Read t k v) fits open_still AlreadyEnded has in absurd (omega arith))
     least AlreadyBegun has = (let is = has.0.1 in cc)
     least EmptyRange has = (let is = has.3 in cc)
     least BadList has = (let is = has.3 in cc)
-    least NotWritten has = omega arith
-    least BadStart has = omega arith
-    least _ has = absurd has
+    least s has = let low : 6 ≤ reason_number s = lower_reasons n events (Read t k v) fits open_still s has in omega arith
 
 -- a range's reasons, from those that are told first
 module _ (events : List Event) (n t lo hi : ℕ) (listed : List (ℕ × ℕ)) (fits : IsInRange (Range t lo hi listed)) (open_still : list_any (ends t) events ≡ false) where
   above : (s : Reason) → EventHas n (IsAmong events) (Range t lo hi listed) s → 7 ≤ reason_number s
-  above TooManyEvents has = absurd has
-  above BadEvent has = absurd has
-  above BadNumber has = absurd (has fits)
-  above AlreadyEnded has = (let low : 6 ≤ 5 = lower_reasons n events (Range t lo hi listed) fits open_still AlreadyEnded has in absurd (omega arith))
   above AlreadyBegun has = (let is = has.0.1 in cc)
-  above _ has = omega arith
+  above s has = let low : 6 ≤ reason_number s = lower_reasons n events (Range t lo hi listed) fits open_still s has in omega arith
 
   not_empty : nat_lt hi lo ≡ false → ¬ EventHas n (IsAmong events) (Range t lo hi listed) EmptyRange
   not_empty some has =
@@ -115,22 +104,12 @@ module _ (events : List Event) (n t lo hi : ℕ) (listed : List (ℕ × ℕ)) (f
     where
       least_list : nat_lt hi lo ≡ false → (s : Reason) → EventHas n (IsAmong events) (Range t lo hi listed) s → 8 ≤ reason_number s
       least_list some EmptyRange has = absurd (not_empty some has)
-      least_list some TooManyEvents has = absurd has
-      least_list some BadEvent has = absurd has
-      least_list some BadNumber has = absurd (has fits)
-      least_list some AlreadyEnded has = (let low : 7 ≤ 5 = above AlreadyEnded has in absurd (omega arith))
-      least_list some AlreadyBegun has = (let low : 7 ≤ 6 = above AlreadyBegun has in absurd (omega arith))
-      least_list some _ has = omega arith
+      least_list some s has = let low : 7 ≤ reason_number s = above s has in omega arith
 
       least_written : nat_lt hi lo ≡ false → goes_up lo hi listed ≡ true → (s : Reason) → EventHas n (IsAmong events) (Range t lo hi listed) s → 9 ≤ reason_number s
       least_written some up EmptyRange has = absurd (not_empty some has)
       least_written some up BadList has = absurd (in_order up has)
-      least_written some up BadNumber has = absurd (has fits)
-      least_written some up AlreadyEnded has = (let low : 7 ≤ 5 = above AlreadyEnded has in absurd (omega arith))
-      least_written some up AlreadyBegun has = (let low : 7 ≤ 6 = above AlreadyBegun has in absurd (omega arith))
-      least_written some up NotWritten has = omega arith
-      least_written some up BadStart has = omega arith
-      least_written some up _ has = absurd has
+      least_written some up s has = let low : 7 ≤ reason_number s = above s has in omega arith
 
 own_least : (events : List Event) (n : ℕ) (e : Event) (r : Reason) → IsInRange e → list_any (ends (actor e)) events ≡ false → own_fault events n e ≡ Some r → IsLeast n events e r
 unfolding own_fault

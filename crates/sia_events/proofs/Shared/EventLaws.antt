@@ -90,11 +90,11 @@ abbrev pub narrow_list : List (ℕ × ℕ) → Option (List (ℕ × ℕ))
 narrow_list [] = Some []
 narrow_list (p ∷ ps) = joined (one_pair (narrow_pair p)) (narrow_list ps)
 
-record HasPair (bytes : List ℕ) (p : ℕ × ℕ) (rest : List ℕ) : Type 0 where
-  whole : bytes ≡ numeral p.0 ++ (58 ∷ (numeral p.1 ++ rest))
-  read : pair_at bytes ≡ Ok (narrow_pair p, rest)
+pub record HasPair (bytes : List ℕ) (p : ℕ × ℕ) (rest : List ℕ) : Type 0 where
+  pub whole : bytes ≡ numeral p.0 ++ (58 ∷ (numeral p.1 ++ rest))
+  pub read : pair_at bytes ≡ Ok (narrow_pair p, rest)
 
-pair_cases : (bytes : List ℕ) → Lacks (pair_at bytes) ⊎ ((p : ℕ × ℕ) × (rest : List ℕ) × HasPair bytes p rest)
+pub pair_cases : (bytes : List ℕ) → Lacks (pair_at bytes) ⊎ ((p : ℕ × ℕ) × (rest : List ℕ) × HasPair bytes p rest)
 unfolding pair_at
 pair_cases bytes = elim (number_cases bytes) [
   | inl e ↦ inl (rw e refl)
@@ -123,7 +123,7 @@ begins_is : (byte : ℕ) (bytes : List ℕ) → begins_with byte bytes ≡ true 
 begins_is byte [] e = absurd cc
 begins_is byte (c ∷ rest) e = ap (λ n. n ∷ rest) (eqb-true c byte e)
 
-joined_none : (pair : Option (ℕ × ℕ)) → joined (one_pair pair) (Some []) ≡ one_pair pair
+pub joined_none : (pair : Option (ℕ × ℕ)) → joined (one_pair pair) (Some []) ≡ one_pair pair
 joined_none None = refl
 joined_none (Some p) = refl
 

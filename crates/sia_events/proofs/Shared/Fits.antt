@@ -12,68 +12,8 @@ use Rattle.sia_events.specs.Known.{acts, ends, is_explained, goes_up, read_fault
 use Rattle.sia_events.proofs.Shared.Refusing.{IsFit}
 use Rattle.sia_events.proofs.Shared.Faults.{IsAmong, among_any, same_true, true_false, none_of, else_none, explained, all_explained, good_list}
 
--- what an event owes to the events before it, besides numbers in their ranges and a transaction that hasn't ended
-record IsOwnFit (n : ℕ) (Earlier : Event → Type 0) (e : Event) : Type 0 where
-  begins_first : IsBegin e → (f : Event) → Earlier f → actor f ≢ actor e
-  not_empty : ¬ IsEmptyRange e
-  list_good : ¬ HasBadList e
-  written : (k v : ℕ) → Saw e k v → v ≢ 0 → Earlier (Write v k)
-  start_there : (start : ℕ) → named_start e ≡ Some start → start ≤ n
-
 pub none_acts : (events : List Event) (t : ℕ) → list_any (acts t) events ≡ false → (f : Event) → IsAmong events f → actor f ≢ t
 none_acts events t none f among same = true_false (list_any (acts t) events) (among_any (acts t) events f among (subst (λ u. (t == u) ≡ true) (sym same) (same_true t))) none
-
-own_fit : (events : List Event) (n : ℕ) (e : Event) → own_fault events n e ≡ None → IsOwnFit n (IsAmong events) e
-unfolding own_fault read_fault range_fault
-own_fit events n (Begin t None) p = record {
-  begins_first = λ b f among. none_acts events t (none_of (list_any (acts t) events) AlreadyBegun None p).0 f among;
-  not_empty = λ h. let is = h.3 in cc;
-  list_good = λ h. let is = h.3 in cc;
-  written = λ k v saw other. absurd saw;
-  start_there = λ start is. absurd cc;
-}
-own_fit events n (Begin t (Some m)) p =
-    let a = none_of (list_any (acts t) events) AlreadyBegun _ p in
-    let b = none_of (nat_lt n m) BadStart None a.1 in
-    record {
-      begins_first = λ b f among. none_acts events t a.0 f among;
-      not_empty = λ h. let is = h.3 in cc;
-      list_good = λ h. let is = h.3 in cc;
-      written = λ k v saw other. absurd saw;
-      start_there = λ start is. let same : m ≡ start = cc in let late = b.0 in let most : m ≤ n = grind (arith, nat_tests) in omega arith;
-    }
-own_fit events n (Read t j w) p = record {
-  begins_first = λ b. let is = b.1 in absurd cc;
-  not_empty = λ h. let is = h.3 in cc;
-  list_good = λ h. let is = h.3 in cc;
-  written = λ k v saw other.
-      let a = else_none (is_explained events (j, w)) NotWritten None p in
-      let key = saw.0 in let version = saw.1 in
-      explained events k v (subst (λ q. is_explained events q ≡ true) (λ i. (sym key i, sym version i)) a.0) other;
-  start_there = λ start is. absurd cc;
-}
-own_fit events n (Range t lo hi listed) p =
-    let a = none_of (nat_lt hi lo) EmptyRange _ p in
-    let b = else_none (goes_up lo hi listed) BadList _ a.1 in
-    let d = else_none (list_all (is_explained events) listed) NotWritten None b.1 in
-    record {
-      begins_first = λ b. let is = b.1 in absurd cc;
-      not_empty = λ h. let is = h.3 in let same_lo : lo ≡ h.0 = cc in let same_hi : hi ≡ h.1 = cc in let less : h.1 < h.0 = h.4 in let some = a.0 in let most : lo ≤ hi = grind (arith, nat_tests) in omega arith;
-      list_good = λ h. let is = h.3 in let same_lo : lo ≡ h.0 = cc in let same_hi : hi ≡ h.1 = cc in let same_list : listed ≡ h.2 = cc in
-          h.4 (good_list h.0 h.1 h.2 (let up = b.0 in (let e : goes_up h.0 h.1 h.2 ≡ goes_up lo hi listed = λ i. goes_up (sym same_lo i) (sym same_hi i) (sym same_list i) in e ∙ up)));
-      written = λ k v saw other. elim saw.2 [
-        | inl c ↦ all_explained events listed d.0 k v c other
-        | inr none ↦ absurd (other none.1)
-      ];
-      start_there = λ start is. absurd cc;
-    }
-own_fit events n _ p = record {
-  begins_first = λ b. let is = b.1 in absurd cc;
-  not_empty = λ h. let is = h.3 in cc;
-  list_good = λ h. let is = h.3 in cc;
-  written = λ j v saw other. absurd saw;
-  start_there = λ start is. absurd cc;
-}
 
 pub none_ends : (events : List Event) (t : ℕ) → list_any (ends t) events ≡ false → ¬ IsAmong events (Commit t) × ¬ IsAmong events (Abort t)
 none_ends events t none = (
@@ -82,18 +22,52 @@ none_ends events t none = (
 )
 
 pub fits_from : (events : List Event) (n : ℕ) (e : Event) → IsInRange e → fault_of events n e ≡ None → IsFit n (IsAmong events) e
-unfolding fault_of
+unfolding fault_of own_fault read_fault range_fault
 fits_from events n e in_range p =
     let a = none_of (list_any (ends (actor e)) events) AlreadyEnded (own_fault events n e) p in
     let open_still = none_ends events (actor e) a.0 in
-    let own = own_fit events n e a.1 in
     record {
       in_range = in_range;
       not_committed = open_still.0;
       not_aborted = open_still.1;
-      begins_first = own.begins_first;
-      not_empty = own.not_empty;
-      list_good = own.list_good;
-      written = own.written;
-      start_there = own.start_there;
+      begins_first = begins e a.1;
+      not_empty = some e a.1;
+      list_good = good e a.1;
+      written = wrote e a.1;
+      start_there = there e a.1;
     }
+  where
+    begins : (e : Event) → own_fault events n e ≡ None → IsBegin e → (f : Event) → IsAmong events f → actor f ≢ actor e
+    begins (Begin t None) p b f among = none_acts events t (none_of (list_any (acts t) events) AlreadyBegun None p).0 f among
+    begins (Begin t (Some m)) p b f among = none_acts events t (none_of (list_any (acts t) events) AlreadyBegun _ p).0 f among
+    begins _ p b f among = let is = b.1 in absurd cc
+
+    some : (e : Event) → own_fault events n e ≡ None → ¬ IsEmptyRange e
+    some (Range t lo hi listed) p h =
+        let up = (none_of (nat_lt hi lo) EmptyRange _ p).0 in
+        let is = h.3 in let same_lo : lo ≡ h.0 = cc in let same_hi : hi ≡ h.1 = cc in let less : h.1 < h.0 = h.4 in let most : lo ≤ hi = grind (arith, nat_tests) in omega arith
+    some _ p h = let is = h.3 in cc
+
+    good : (e : Event) → own_fault events n e ≡ None → ¬ HasBadList e
+    good (Range t lo hi listed) p h =
+        let is = h.3 in let same_lo : lo ≡ h.0 = cc in let same_hi : hi ≡ h.1 = cc in let same_list : listed ≡ h.2 = cc in
+        let up = (else_none (goes_up lo hi listed) BadList _ (none_of (nat_lt hi lo) EmptyRange _ p).1).0 in
+        h.4 (good_list h.0 h.1 h.2 ((λ i. goes_up (sym same_lo i) (sym same_hi i) (sym same_list i)) ∙ up))
+    good _ p h = let is = h.3 in cc
+
+    wrote : (e : Event) → own_fault events n e ≡ None → (k v : ℕ) → Saw e k v → v ≢ 0 → IsAmong events (Write v k)
+    wrote (Read t j w) p k v saw other =
+        let a = else_none (is_explained events (j, w)) NotWritten None p in
+        let key = saw.0 in let version = saw.1 in
+        explained events k v (subst (λ q. is_explained events q ≡ true) (λ i. (sym key i, sym version i)) a.0) other
+    wrote (Range t lo hi listed) p k v saw other =
+        let b = else_none (goes_up lo hi listed) BadList _ (none_of (nat_lt hi lo) EmptyRange _ p).1 in
+        let d = else_none (list_all (is_explained events) listed) NotWritten None b.1 in
+        elim saw.2 [ inl c ↦ all_explained events listed d.0 k v c other | inr none ↦ absurd (other none.1) ]
+    wrote _ p k v saw other = absurd saw
+
+    there : (e : Event) → own_fault events n e ≡ None → (start : ℕ) → named_start e ≡ Some start → start ≤ n
+    there (Begin t (Some m)) p start is =
+        let late = (none_of (nat_lt n m) BadStart None (none_of (list_any (acts t) events) AlreadyBegun _ p).1).0 in
+        let same : m ≡ start = cc in let most : m ≤ n = grind (arith, nat_tests) in omega arith
+    there _ p start is = absurd cc

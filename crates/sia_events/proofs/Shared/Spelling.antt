@@ -44,7 +44,7 @@ seven a b c d e f g = simp append_assoc
 pub regrouped : (e : Event) → spell e ≡ event_text e
 regrouped q0 = search (rules, append-nil, seven, append_assoc, list_regrouped)
 
-above_digits : (c : ℕ) → 57 < c → ¬ IsDigit c
+pub above_digits : (c : ℕ) → 57 < c → ¬ IsDigit c
 above_digits c above d = omega arith
 
 below_digits : (c : ℕ) → c < 48 → ¬ IsDigit c
