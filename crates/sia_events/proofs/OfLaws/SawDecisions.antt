@@ -12,11 +12,8 @@ use Rattle.sia_events.proofs.Shared.Starts.{one_event}
 
 -- the first of a list, or one of the rest
 pub contains_cases : {A : Type 0} (x z : A) (xs : List A) → Contains (x ∷ xs) z → (x ≡ z) ⊎ Contains xs z
-contains_cases x z xs c = by_index c.0 c.1 c.2
-  where
-    by_index : (k : ℕ) → k < length (x ∷ xs) → slice_index_or (x ∷ xs) k z ≡ z → (x ≡ z) ⊎ Contains xs z
-    by_index zero below e = inl e
-    by_index (suc k) below e = inr (k, omega arith, e)
+contains_cases x z xs (zero, below, e) = inl e
+contains_cases x z xs (suc k, below, e) = inr (k, omega arith, e)
 
 pub contains_later : {A : Type 0} (x z : A) (xs : List A) → Contains xs z → Contains (x ∷ xs) z
 contains_later x z xs c = (suc c.0, (let below : c.0 < length xs = c.1 in omega arith), c.2)

@@ -60,9 +60,6 @@ module _ (h : List Event) (wf : IsWellFormed h) where
 
   -- an edge leads from one committed transaction to another
   pub edge_between : (t u : ℕ) → HasEdge h t u → (t ≢ u) × IsCommitted h t × IsCommitted h u
-  edge_between t u e = of_kind e.0 e.1
-    where
-      of_kind : (k : ℕ) → WwEdge h t u k ⊎ WrEdge h t u k ⊎ RwEdge h t u k → (t ≢ u) × IsCommitted h t × IsCommitted h u
-      of_kind k (inl ww) = ((λ is. commits_not_before_itself u (subst (λ x. CommitsBefore h x u) is ww.2)), (ww.2.0, ww.2.2), (ww.2.1, ww.2.3))
-      of_kind k (inr (inl wr)) = (wr.0, wr.1.1, wr.2)
-      of_kind k (inr (inr rw)) = (rw.0, rw.1, rw.2.1)
+  edge_between t u (k, inl ww) = ((λ is. commits_not_before_itself u (subst (λ x. CommitsBefore h x u) is ww.2)), (ww.2.0, ww.2.2), (ww.2.1, ww.2.3))
+  edge_between t u (k, inr (inl wr)) = (wr.0, wr.1.1, wr.2)
+  edge_between t u (k, inr (inr rw)) = (rw.0, rw.1, rw.2.1)

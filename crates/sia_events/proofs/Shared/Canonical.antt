@@ -93,19 +93,11 @@ spellings_injective [] [] p = refl
 spellings_injective [] (f ∷ h) p = cc
 spellings_injective (e ∷ g) [] p = cc
 spellings_injective (e ∷ g) (f ∷ h) p =
-    let first : spell e ≡ spell f = ap first_of p in
-    let rest : ◌≡◌ {A = List (List ℕ)} (map spell g) (map spell h) = ap rest_of p in
+    let first : spell e ≡ spell f = cc in
+    let rest : ◌≡◌ {A = List (List ℕ)} (map spell g) (map spell h) = cc in
     let a = spell_injective e f first in
     let b = spellings_injective g h rest in
     λ i. a i ∷ b i
-  where
-    first_of : List (List ℕ) → List ℕ
-    first_of [] = []
-    first_of (x ∷ xs) = x
-
-    rest_of : List (List ℕ) → List (List ℕ)
-    rest_of [] = []
-    rest_of (x ∷ xs) = xs
 
 -- no two histories have one canonical text
 pub one_text : (g h : List Event) → canonical g ≡ canonical h → g ≡ h

@@ -27,26 +27,17 @@ use Rattle.sia_events.proofs.LogRows.RowsRead.{get_more, push_cases}
 
 -- what stood before place i, within the events, stands there still
 before_old : (es : List Event) (e : Event) (i : ℕ) (f : Event) → i ≤ length es → IsBefore (es ++ e ∷ []) i f → IsBefore es i f
-before_old es e i f within b = at_index b.0 b.1 b.2
-  where
-    at_index : (j : ℕ) → j < i → at_place (es ++ e ∷ []) j ≡ Some f → IsBefore es i f
-    at_index zero below is = absurd cc
-    at_index (suc j) below is = elim (push_cases es e j f is) [ inl old ↦ (suc j, below, old) | inr new ↦ (let last = new.0 in absurd (omega arith)) ]
+before_old es e i f within (zero, below, is) = absurd cc
+before_old es e i f within (suc j, below, is) = elim (push_cases es e j f is) [ inl old ↦ (suc j, below, old) | inr new ↦ (let last = new.0 in absurd (omega arith)) ]
 
 before_new : (es : List Event) (e : Event) (i : ℕ) (f : Event) → IsBefore es i f → IsBefore (es ++ e ∷ []) i f
-before_new es e i f b = at_index b.0 b.1 b.2
-  where
-    at_index : (j : ℕ) → j < i → at_place es j ≡ Some f → IsBefore (es ++ e ∷ []) i f
-    at_index zero below is = absurd cc
-    at_index (suc j) below is = (suc j, below, get_more es (e ∷ []) j f is)
+before_new es e i f (zero, below, is) = absurd cc
+before_new es e i f (suc j, below, is) = (suc j, below, get_more es (e ∷ []) j f is)
 
 -- what stands before the last place is among the events before
 before_last : (es : List Event) (e f : Event) → IsBefore (es ++ e ∷ []) (suc (length es)) f → IsAmong es f
-before_last es e f b = at_index b.0 b.1 b.2
-  where
-    at_index : (j : ℕ) → j < suc (length es) → at_place (es ++ e ∷ []) j ≡ Some f → IsAmong es f
-    at_index zero below is = absurd cc
-    at_index (suc j) below is = elim (push_cases es e j f is) [ inl old ↦ (j, old) | inr new ↦ (let last = new.0 in absurd (omega arith)) ]
+before_last es e f (zero, below, is) = absurd cc
+before_last es e f (suc j, below, is) = elim (push_cases es e j f is) [ inl old ↦ (j, old) | inr new ↦ (let last = new.0 in absurd (omega arith)) ]
 
 among_before : (es : List Event) (e f : Event) → IsAmong es f → IsBefore (es ++ e ∷ []) (suc (length es)) f
 among_before es e f a = (suc a.0, (let below = slice_get_within es a.0 f a.1 in omega arith), get_more es (e ∷ []) a.0 f a.1)

@@ -48,34 +48,6 @@ last_below P decide (suc n) = elim (decide n) [
   ]
 ]
 
--- whether two lists, options, pairs or events are one
-pub same_list : {A : Type 0} → ((x y : A) → Decided (x ≡ y)) → (xs ys : List A) → Decided (xs ≡ ys)
-same_list same [] [] = inl refl
-same_list same [] (y ∷ ys) = inr (λ e. cc)
-same_list same (x ∷ xs) [] = inr (λ e. cc)
-same_list same (x ∷ xs) (y ∷ ys) = elim (same x y) [
-  | inl a ↦ elim (same_list same xs ys) [
-    | inl b ↦ inl (λ i. a i ∷ b i)
-    | inr n ↦ inr (λ e. n (let p : xs ≡ ys = cc in p))
-  ]
-  | inr n ↦ inr (λ e. n (let p : x ≡ y = cc in p))
-]
-
-pub same_option : {A : Type 0} → ((x y : A) → Decided (x ≡ y)) → (o p : Option A) → Decided (o ≡ p)
-same_option same None None = inl refl
-same_option same None (Some y) = inr (λ e. cc)
-same_option same (Some x) None = inr (λ e. cc)
-same_option same (Some x) (Some y) = elim (same x y) [ inl a ↦ inl (ap Some a) | inr n ↦ inr (λ e. n (let p : x ≡ y = cc in p)) ]
-
-pub same_pair : (p q : ℕ × ℕ) → Decided (p ≡ q)
-same_pair p q = elim (cases_eq p.0 q.0) [
-  | inl a ↦ elim (cases_eq p.1 q.1) [
-    | inl b ↦ inl (λ i. (a i, b i))
-    | inr n ↦ inr (λ e. n (ap (λ (r : ℕ × ℕ). r.1) e))
-  ]
-  | inr n ↦ inr (λ e. n (ap (λ (r : ℕ × ℕ). r.0) e))
-]
-
 -- two statements, or three
 pub both : (P Q : Type 0) → Decided P → Decided Q → Decided (P × Q)
 both P Q (inl p) (inl q) = inl (p, q)
@@ -98,31 +70,40 @@ pub decided_alike : (P Q : Type 0) → (P → Q) → (Q → P) → Decided P →
 decided_alike P Q to from (inl p) = inl (to p)
 decided_alike P Q to from (inr n) = inr (λ q. n (from q))
 
+-- whether two lists, options, pairs or events are one
+pub same_list : {A : Type 0} → ((x y : A) → Decided (x ≡ y)) → (xs ys : List A) → Decided (xs ≡ ys)
+same_list same [] [] = inl refl
+same_list same [] (y ∷ ys) = inr (λ e. cc)
+same_list same (x ∷ xs) [] = inr (λ e. cc)
+same_list same (x ∷ xs) (y ∷ ys) =
+    decided_alike ((x ≡ y) × (xs ≡ ys)) (◌≡◌ {A = List _} (x ∷ xs) (y ∷ ys)) (λ s i. s.0 i ∷ s.1 i) (λ e. ((let p : x ≡ y = cc in p), (let q : xs ≡ ys = cc in q)))
+    (both (x ≡ y) (xs ≡ ys) (same x y) (same_list same xs ys))
+
+pub same_option : {A : Type 0} → ((x y : A) → Decided (x ≡ y)) → (o p : Option A) → Decided (o ≡ p)
+same_option same None None = inl refl
+same_option same None (Some y) = inr (λ e. cc)
+same_option same (Some x) None = inr (λ e. cc)
+same_option same (Some x) (Some y) = decided_alike (x ≡ y) (Some x ≡ Some y) (ap Some) (λ e. (let p : x ≡ y = cc in p)) (same x y)
+
+pub same_pair : (p q : ℕ × ℕ) → Decided (p ≡ q)
+same_pair p q =
+    decided_alike ((p.0 ≡ q.0) × (p.1 ≡ q.1)) (p ≡ q) (λ s i. (s.0 i, s.1 i)) (λ e. (ap (λ (r : ℕ × ℕ). r.0) e, ap (λ (r : ℕ × ℕ). r.1) e))
+    (both (p.0 ≡ q.0) (p.1 ≡ q.1) (cases_eq p.0 q.0) (cases_eq p.1 q.1))
+
 pub same_event : (e f : Event) → Decided (e ≡ f)
 same_event (Begin t a) (Begin u b) =
     decided_alike ((t ≡ u) × (a ≡ b)) (Begin t a ≡ Begin u b) (λ s i. Begin (s.0 i) (s.1 i)) (λ e. ((let p : t ≡ u = cc in p), (let q : a ≡ b = cc in q)))
     (both (t ≡ u) (a ≡ b) (cases_eq t u) (same_option cases_eq a b))
-same_event (Read t k v) (Read u j w) = elim (cases_eq t u) [
-  | inl a ↦ elim (cases_eq k j) [
-    | inl b ↦ elim (cases_eq v w) [
-      | inl c ↦ inl (λ i. Read (a i) (b i) (c i))
-      | inr n ↦ inr (λ e. n (let p : v ≡ w = cc in p))
-    ]
-    | inr n ↦ inr (λ e. n (let p : k ≡ j = cc in p))
-  ]
-  | inr n ↦ inr (λ e. n (let p : t ≡ u = cc in p))
-]
-same_event (Range t lo hi listed) (Range u low high others) = elim (both (t ≡ u) (lo ≡ low) (cases_eq t u) (cases_eq lo low)) [
-  | inl a ↦ elim (both (hi ≡ high) (listed ≡ others) (cases_eq hi high) (same_list same_pair listed others)) [
-    | inl b ↦ inl (λ i. Range (a.0 i) (a.1 i) (b.0 i) (b.1 i))
-    | inr n ↦ inr (λ e. n ((let p : hi ≡ high = cc in p), (let q : listed ≡ others = cc in q)))
-  ]
-  | inr n ↦ inr (λ e. n ((let p : t ≡ u = cc in p), (let q : lo ≡ low = cc in q)))
-]
-same_event (Write t k) (Write u j) = elim (both (t ≡ u) (k ≡ j) (cases_eq t u) (cases_eq k j)) [
-  | inl a ↦ inl (λ i. Write (a.0 i) (a.1 i))
-  | inr n ↦ inr (λ e. n ((let p : t ≡ u = cc in p), (let q : k ≡ j = cc in q)))
-]
-same_event (Commit t) (Commit u) = elim (cases_eq t u) [ inl a ↦ inl (ap Commit a) | inr n ↦ inr (λ e. n (let p : t ≡ u = cc in p)) ]
-same_event (Abort t) (Abort u) = elim (cases_eq t u) [ inl a ↦ inl (ap Abort a) | inr n ↦ inr (λ e. n (let p : t ≡ u = cc in p)) ]
+same_event (Read t k v) (Read u j w) =
+    decided_alike ((t ≡ u) × (k ≡ j) × (v ≡ w)) (Read t k v ≡ Read u j w) (λ s i. Read (s.0 i) (s.1 i) (s.2 i)) (λ e. ((let p : t ≡ u = cc in p), (let q : k ≡ j = cc in q), (let r : v ≡ w = cc in r)))
+    (all_three (t ≡ u) (k ≡ j) (v ≡ w) (cases_eq t u) (cases_eq k j) (cases_eq v w))
+same_event (Range t lo hi listed) (Range u low high others) =
+    decided_alike (((t ≡ u) × (lo ≡ low)) × (hi ≡ high) × (listed ≡ others)) (Range t lo hi listed ≡ Range u low high others) (λ s i. Range (s.0.0 i) (s.0.1 i) (s.1 i) (s.2 i))
+    (λ e. (((let p : t ≡ u = cc in p), (let q : lo ≡ low = cc in q)), (let r : hi ≡ high = cc in r), (let s : listed ≡ others = cc in s)))
+    (all_three ((t ≡ u) × (lo ≡ low)) (hi ≡ high) (listed ≡ others) (both (t ≡ u) (lo ≡ low) (cases_eq t u) (cases_eq lo low)) (cases_eq hi high) (same_list same_pair listed others))
+same_event (Write t k) (Write u j) =
+    decided_alike ((t ≡ u) × (k ≡ j)) (Write t k ≡ Write u j) (λ s i. Write (s.0 i) (s.1 i)) (λ e. ((let p : t ≡ u = cc in p), (let q : k ≡ j = cc in q)))
+    (both (t ≡ u) (k ≡ j) (cases_eq t u) (cases_eq k j))
+same_event (Commit t) (Commit u) = decided_alike (t ≡ u) (Commit t ≡ Commit u) (ap Commit) (λ e. (let p : t ≡ u = cc in p)) (cases_eq t u)
+same_event (Abort t) (Abort u) = decided_alike (t ≡ u) (Abort t ≡ Abort u) (ap Abort) (λ e. (let p : t ≡ u = cc in p)) (cases_eq t u)
 same_event _ f = inr (λ e. cc)

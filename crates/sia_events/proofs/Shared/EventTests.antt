@@ -134,20 +134,14 @@ one_key_written h t k none j w = eqb-true j k (other_part (t == t) (j == k) (sam
 
 -- t alone read k
 pub one_reader : (h : List Event) (t k : ℕ) → list_any (others_read t k) h ≡ false → (p u v : ℕ) → SawAt h p u k v → u ≡ t
-one_reader h t k none p u v saw = of_event saw.0 saw.1 saw.2 saw.3
-  where
-    of_event : (e : Event) → at_place h p ≡ Some e → actor e ≡ u → Saw e k v → u ≡ t
-    of_event (Read w j x) at is s =
-        sym is ∙ eqb-true w t (other_part (j == k) (w == t) (eq-eqb j k (sym s.0)) (nowhere (others_read t k) h p (Read w j x) none at))
-    of_event (Range w lo hi listed) at is s = absurd (nowhere (others_read t k) h p (Range w lo hi listed) none at refl)
-    of_event _ at is s = absurd s
+one_reader h t k none p u v (Read w j x, at, is, s) =
+    sym is ∙ eqb-true w t (other_part (j == k) (w == t) (eq-eqb j k (sym s.0)) (nowhere (others_read t k) h p (Read w j x) none at))
+one_reader h t k none p u v (Range w lo hi listed, at, is, s) = absurd (nowhere (others_read t k) h p (Range w lo hi listed) none at refl)
+one_reader h t k none p u v (_, at, is, s) = absurd s
 
 -- t read k alone
 pub one_key_read : (h : List Event) (t k : ℕ) → list_any (reads_others t k) h ≡ false → (p j v : ℕ) → SawAt h p t j v → j ≡ k
-one_key_read h t k none p j v saw = of_event saw.0 saw.1 saw.2 saw.3
-  where
-    of_event : (e : Event) → at_place h p ≡ Some e → actor e ≡ t → Saw e j v → j ≡ k
-    of_event (Read w i x) at is s =
-        s.0 ∙ eqb-true i k (other_part (w == t) (i == k) (eq-eqb w t is) (nowhere (reads_others t k) h p (Read w i x) none at))
-    of_event (Range w lo hi listed) at is s = absurd (nowhere (reads_others t k) h p (Range w lo hi listed) none at refl)
-    of_event _ at is s = absurd s
+one_key_read h t k none p j v (Read w i x, at, is, s) =
+    s.0 ∙ eqb-true i k (other_part (w == t) (i == k) (eq-eqb w t is) (nowhere (reads_others t k) h p (Read w i x) none at))
+one_key_read h t k none p j v (Range w lo hi listed, at, is, s) = absurd (nowhere (reads_others t k) h p (Range w lo hi listed) none at refl)
+one_key_read h t k none p j v (_, at, is, s) = absurd s

@@ -112,28 +112,19 @@ get_spelling (e ∷ es) us zero f is = ap Some (ap spell (let same : e ≡ f = c
 get_spelling (e ∷ es) us (suc j) f is = get_spelling es us j f is
 
 earlier_among : (es : List Event) (us : List (List ℕ)) (f : Event) → IsEarlier (map spell es ++ us) (suc (length es)) f → IsAmong es f
-earlier_among es us f h = at_index h.0 h.1 h.2
-  where
-    at_index : (j : ℕ) → j < suc (length es) → at_place (map spell es ++ us) j ≡ Some (spell f) → IsAmong es f
-    at_index zero below is = absurd cc
-    at_index (suc j) below is = (j, get_event es us j f (omega arith) is)
+earlier_among es us f (zero, below, is) = absurd cc
+earlier_among es us f (suc j, below, is) = (j, get_event es us j f (omega arith) is)
 
 among_earlier : (es : List Event) (us : List (List ℕ)) (f : Event) → IsAmong es f → IsEarlier (map spell es ++ us) (suc (length es)) f
 among_earlier es us f a = (suc a.0, (let below = slice_get_within es a.0 f a.1 in omega arith), get_spelling es us a.0 f a.1)
 
 earlier_front : (ts us : List (List ℕ)) (i : ℕ) (f : Event) → i ≤ length ts → IsEarlier (ts ++ us) i f → IsEarlier ts i f
-earlier_front ts us i f within h = at_index h.0 h.1 h.2
-  where
-    at_index : (j : ℕ) → j < i → at_place (ts ++ us) j ≡ Some (spell f) → IsEarlier ts i f
-    at_index zero below is = absurd cc
-    at_index (suc j) below is = (suc j, below, sym (get_front ts us j (omega arith)) ∙ is)
+earlier_front ts us i f within (zero, below, is) = absurd cc
+earlier_front ts us i f within (suc j, below, is) = (suc j, below, sym (get_front ts us j (omega arith)) ∙ is)
 
 front_earlier : (ts us : List (List ℕ)) (i : ℕ) (f : Event) → i ≤ length ts → IsEarlier ts i f → IsEarlier (ts ++ us) i f
-front_earlier ts us i f within h = at_index h.0 h.1 h.2
-  where
-    at_index : (j : ℕ) → j < i → at_place ts j ≡ Some (spell f) → IsEarlier (ts ++ us) i f
-    at_index zero below is = absurd cc
-    at_index (suc j) below is = (suc j, below, get_front ts us j (omega arith) ∙ is)
+front_earlier ts us i f within (zero, below, is) = absurd cc
+front_earlier ts us i f within (suc j, below, is) = (suc j, below, get_front ts us j (omega arith) ∙ is)
 
 -- the reasons of the next token's event, by the events or by the tokens before it
 earlier_has : (es : List Event) (us : List (List ℕ)) (e : Event) (r : Reason) → EventHas (length es) (IsAmong es) e r → EventHas (suc (length es) - 1) (IsEarlier (map spell es ++ us) (suc (length es))) e r
