@@ -6,7 +6,7 @@ use Rattle.sia_events.specs.declared.event.Event.{Event}
 use Rattle.sia_events.specs.declared.event.Event.TheVariants.{Write}
 use Rattle.sia_events.specs.Refusals.{IsWellFormed}
 use Rattle.sia_events.specs.Transactions.{IsCommitted, Wrote, CommitsBefore}
-use Rattle.sia_events.specs.Dependencies.{IsCommittedWriter, IsVersionBefore, WwEdge, WrEdge, RwEdge, HasEdge}
+use Rattle.sia_events.specs.Dependencies.{IsCommittedWriter, IsVersionBefore, HasEdge}
 use Rattle.sia_events.proofs.OfLaws.Endings.{two_commits}
 use Rattle.sia_events.proofs.OfLaws.Seen.{actor_is_txn}
 use Rattle.sia_events.proofs.Writing.WellFormed.{one_commit}

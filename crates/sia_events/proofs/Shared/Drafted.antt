@@ -8,7 +8,7 @@ use Rattle.std.proofs.Math.Seq.{drop-append_seam}
 use Rattle.std.proofs.lemmas.List.{length-map, length-append, map-append, append-nil, take-append-le, take_all}
 use Rattle.std.proofs.Math.Seq.{take-append_seam, get_or-append_seam}
 use Rattle.std.proofs.lemmas.List.Elements.{All-push, All-drop}
-use Rattle.std.proofs.lemmas.Option.{slice_get_within, get_or_from_slice_get, slice_get-get_or}
+use Rattle.std.proofs.lemmas.Option.{slice_get_within, get_or_from_slice_get, slice_get-get_or, same_Some}
 use Rattle.sia_events.specs.declared.event.Event.{Event}
 use Rattle.sia_events.specs.declared.log.TxnRow.{TxnRow}
 use Rattle.sia_events.specs.declared.log.WriteRow.{WriteRow}
@@ -280,9 +280,6 @@ unfolding Takes
 stops d e name ev refusals.NoMemory acts_is why = tt
 stops d e name ev (refusals.Bad r) acts_is why = (fault_by (events_of d.tables) (length (events_of d.tables)) ev true (ap (λ t. list_any (ends t) (events_of d.tables)) acts_is ∙ why.1) ∙ ap Some (sym why.0), ap events_of why.2)
 
-some_same : {A : Type 0} {x y : A} → Some x ≡ Some y → x ≡ y
-some_same e = cc
-
 found_same : (u e : Draft) → AreFound u → AreSound e.tables × Grows u.tables e.tables → e.txns ≡ u.txns → e.keys ≡ u.keys → e.writes ≡ u.writes → e.last_seen.items ≡ u.last_seen.items → txn_names e.tables.txns.items ≡ txn_names u.tables.txns.items → e.tables.keys.items ≡ u.tables.keys.items → e.tables.writes.items ≡ u.tables.writes.items → AreFound e
 found_same u e found g fx fk fw fs txns keys writes =
     let many : length e.tables.txns.items ≡ length u.tables.txns.items = sym (length-map e.tables.txns.items (λ (x : TxnRow). x.name)) ∙ ap length txns ∙ length-map u.tables.txns.items (λ (x : TxnRow). x.name) in
@@ -323,7 +320,7 @@ unfolding Takes
 finishes d e u name n ev r x y knows acting sound found grows at same_name same_start ended txns keys writes ranges no_keys no_writes no_ranges pushed acts_is plain others spells marked own =
     let h = events_of d.tables in
     let tables = tables_of d knows in
-    let named : x.name ≡ name = some_same (sym (map_get (λ (z : TxnRow). z.name) u.txns.items n x at) ∙ acting.is) in
+    let named : x.name ≡ name = same_Some x.name name (sym (map_get (λ (z : TxnRow). z.name) u.txns.items n x at) ∙ acting.is) in
     let kept : txn_names e.tables.txns.items ≡ txn_names u.txns.items = ap txn_names txns ∙ map-set_same (λ (z : TxnRow). z.name) u.txns.items n y x (same_name ∙ ap (λ (z : TxnRow). z.name) (sym (get_or_from_slice_get u.txns.items n x x at))) in
     let here : Lives (h ++ ev ∷ []) y = (
       rw (same_name, same_start) (elim (acting_row d.tables u name n acting n x at) [
@@ -378,7 +375,7 @@ same_writes t u w name n k kn tables acting has = writes_kept t w tables.sound (
 
 pub pair_there : (xs : List (ℕ × ℕ)) (n : ℕ) (p : ℕ × ℕ) → slice_get xs n ≡ Some p → list_any (same_pair p) xs ≡ true
 pair_there [] n p at = absurd (let e : None ≡ Some p = at in cc)
-pair_there (q ∷ xs) zero p at = let e : q ≡ p = some_same at in rw (e, same_true p.0, same_true p.1) refl
+pair_there (q ∷ xs) zero p at = let e : q ≡ p = same_Some q p at in rw (e, same_true p.0, same_true p.1) refl
 pair_there (q ∷ xs) (suc n) p at = rw (pair_there xs n p at) (or-true (same_pair p q))
 
 pub seen_explained : (names : Names) (h : List Event) (k v s : ℕ) → names.writes ≡ writes_of h → IsSeen names k v s → is_explained h (k, v) ≡ true

@@ -1,11 +1,11 @@
 -- Each event's spelling is read to it, or to a number out of range.
-use Rattle.std.proofs.Common.{sym, ◌≡◌, ◌⊎◌, inl, inr, ℕ, zero, suc, ◌+◌, ◌<◌, ◌≤◌, List, [], ◌∷◌, ◌++◌, length, Option, Some, None, Result, Ok, refl, ap, ◌∙◌, arith}
+use Rattle.std.proofs.Common.{sym, ◌≡◌, ℕ, zero, suc, ◌+◌, ◌<◌, List, [], ◌∷◌, ◌++◌, length, Some, None, Result, Ok, refl, ap, ◌∙◌, arith}
 use Rattle.std.proofs.lemmas.List.{length-append}
 use Rattle.sia_events.specs.Text.{numeral, spell}
 use Rattle.sia_events.specs.declared.event.Event.{Event}
 use Rattle.sia_events.specs.declared.event.Event.TheVariants.{Begin, Read, Range, Write, Commit, Abort}
 use Rattle.sia_events.specs.declared.fault.Reason.{Reason}
-use Rattle.sia_events.specs.Parsing.{◌>>=◌, narrow, number_at, after_byte, ended, key_of, version_of, txn_of, begin_at, write_at, item_at, pair_at, joined, one_pair, pairs_within, pairs_at, list_at, list_of, range_at, read_at, commit_at, abort_at, event_at}
+use Rattle.sia_events.specs.Parsing.{◌>>=◌, narrow, number_at, after_byte, ended, key_of, version_of, txn_of, begin_at, write_at, item_at, pair_at, pairs_within, pairs_at, list_at, list_of, range_at, read_at, commit_at, abort_at, event_at}
 use Rattle.sia_events.proofs.Shared.Numerals.{IsDigit}
 use Rattle.sia_events.proofs.Shared.NumberLaws.{number_again}
 use Rattle.sia_events.proofs.Shared.Spelling.{above_digits, pairs_text, list_text, event_text, regrouped, open_bracket, bracket, colon, comma, dot, at_sign}

@@ -11,16 +11,17 @@ use Rattle.sia_events.specs.Refusals.{IsInRange, IsGoodList, EventHas, reason_nu
 use Rattle.sia_events.specs.Known.{acts, ends, is_explained, goes_up, begin_fault, read_fault, range_fault, own_fault, fault_of}
 use Rattle.sia_events.proofs.Shared.Faults.{IsAmong, any_among, ends_is, true_false, good_list}
 use Rattle.sia_events.proofs.Shared.Fits.{none_acts}
-use Rattle.sia_events.proofs.Shared.LeastFaults.{IsLeast, lower_reasons, some_is, acts_among, unwritten, unexplained_pair, listed_within, list_goes_up}
+use Rattle.sia_events.proofs.Shared.LeastFaults.{IsLeast, lower_reasons, acts_among, unwritten, unexplained_pair, listed_within, list_goes_up}
+use Rattle.std.proofs.lemmas.Option.{same_Some}
 
 -- a test that finds a fault
 found : (b : Bool) (r s : Reason) (rest : Option Reason) → cond b (Some r) rest ≡ Some s → ((b ≡ true) × (r ≡ s)) ⊎ ((b ≡ false) × (rest ≡ Some s))
-found true r s rest e = inl (refl, some_is r s e)
+found true r s rest e = inl (refl, same_Some r s e)
 found false r s rest e = inr (refl, e)
 
 found_else : (b : Bool) (r s : Reason) (rest : Option Reason) → cond b rest (Some r) ≡ Some s → ((b ≡ false) × (r ≡ s)) ⊎ ((b ≡ true) × (rest ≡ Some s))
 found_else true r s rest e = inr (refl, e)
-found_else false r s rest e = inl (refl, some_is r s e)
+found_else false r s rest e = inl (refl, same_Some r s e)
 
 no_more : (r : Reason) → ◌≡◌ {A = Option Reason} None (Some r) → ⊥
 no_more r e = cc

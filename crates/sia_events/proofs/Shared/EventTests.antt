@@ -6,7 +6,7 @@ use Rattle.std.proofs.lemmas.Bool.{or_parts, both_ways, eqb-true, eq-eqb, and_fr
 use Rattle.sia_events.specs.declared.event.Event.{Event}
 use Rattle.sia_events.specs.declared.event.Event.TheVariants.{Read, Range, Write, Commit, Abort}
 use Rattle.sia_events.specs.Places.{at_place}
-use Rattle.sia_events.specs.Events.{actor, named_start, Saw}
+use Rattle.sia_events.specs.Events.{actor, named_start}
 use Rattle.sia_events.specs.Transactions.{IsFirstEvent, StartsAt, CommitsAt, IsCommitted, Wrote, WroteBefore}
 use Rattle.sia_events.specs.Reads.{SawAt}
 use Rattle.sia_events.proofs.Shared.Faults.{same_true}

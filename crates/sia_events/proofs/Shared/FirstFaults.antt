@@ -8,7 +8,6 @@ use Rattle.sia_events.specs.Limits.{Limits}
 use Rattle.sia_events.specs.declared.event.Event.{Event}
 use Rattle.sia_events.specs.declared.fault.Reason.{Reason}
 use Rattle.sia_events.specs.declared.fault.Reason.TheVariants.{TooManyEvents, BadEvent, BadNumber, EmptyRange, BadList}
-use Rattle.sia_events.specs.Places.{at_place}
 use Rattle.sia_events.specs.Text.{spell}
 use Rattle.sia_events.specs.Refusals.{EventHas, IsEarlier, TokenHas, HasReason, reason_number, AnyForm, IsFirstFault}
 use Rattle.sia_events.specs.Parsing.{◌>>=◌, event_at}
@@ -21,7 +20,7 @@ use Rattle.sia_events.proofs.Shared.EventCases.{token_cases}
 use Rattle.sia_events.proofs.Shared.Faults.{IsAmong}
 use Rattle.sia_events.proofs.Shared.EventFaults.{fault_least}
 use Rattle.sia_events.proofs.Shared.Clean.{IsClean, judged_clean}
-use Rattle.std.proofs.lemmas.Option.{slice_get_within}
+use Rattle.std.proofs.lemmas.Option.{slice_get_within, same_Some}
 use Rattle.sia_events.proofs.LogRows.RowsRead.{get_front}
 
 -- ---- the reasons of the next token
@@ -100,10 +99,7 @@ get_next (e ∷ es) w us = get_next es w us
 -- an event whose spelling stands among these is among the events
 get_event : (es : List Event) (us : List (List ℕ)) (j : ℕ) (f : Event) → j < length es → slice_get (map spell es ++ us) j ≡ Some (spell f) → slice_get es j ≡ Some f
 get_event [] us j f below is = absurd (omega arith)
-get_event (e ∷ es) us zero f below is = ap Some (spell_injective e f (same_some (spell e) (spell f) is))
-  where
-    same_some : (v x : List ℕ) → Some v ≡ Some x → v ≡ x
-    same_some v x p = cc
+get_event (e ∷ es) us zero f below is = ap Some (spell_injective e f (same_Some (spell e) (spell f) is))
 get_event (e ∷ es) us (suc j) f below is = get_event es us j f (omega arith) is
 
 get_spelling : (es : List Event) (us : List (List ℕ)) (j : ℕ) (f : Event) → slice_get es j ≡ Some f → slice_get (map spell es ++ us) j ≡ Some (spell f)
@@ -147,25 +143,19 @@ token_moved limits ts us i w to from s t = (t.0, tt, t.2, moved (i - 1) (IsEarli
 
 -- a reason of one of the first tokens is one without those after them, and the other way round
 pub reason_front : (limits : Limits) (ts us : List (List ℕ)) (i : ℕ) (r : Reason) → i ≤ length ts → HasReason limits (ts ++ us) i r → HasReason limits ts i r
-reason_front limits ts us i r within has = at_number i within has
-  where
-    at_number : (j : ℕ) → j ≤ length ts → HasReason limits (ts ++ us) j r → HasReason limits ts j r
-    at_number zero most h = (let is = h.1 in cc)
-    at_number (suc j) most h = (
-      h.0,
-      sym (get_front ts us j (omega arith)) ∙ h.1,
-      token_moved limits (ts ++ us) ts (suc j) h.0 (λ f. earlier_front ts us (suc j) f most) (λ f. front_earlier ts us (suc j) f most) r h.2,
-    )
+reason_front limits ts us zero r most h = (let is = h.1 in cc)
+reason_front limits ts us (suc j) r most h = (
+  h.0,
+  sym (get_front ts us j (omega arith)) ∙ h.1,
+  token_moved limits (ts ++ us) ts (suc j) h.0 (λ f. earlier_front ts us (suc j) f most) (λ f. front_earlier ts us (suc j) f most) r h.2,
+)
 
 pub front_reason : (limits : Limits) (ts us : List (List ℕ)) (i : ℕ) (r : Reason) → HasReason limits ts i r → (i ≤ length ts) × HasReason limits (ts ++ us) i r
-front_reason limits ts us i r has = at_number i has
-  where
-    at_number : (j : ℕ) → HasReason limits ts j r → (j ≤ length ts) × HasReason limits (ts ++ us) j r
-    at_number zero h = (let is = h.1 in cc)
-    at_number (suc j) h =
-        let below : j < length ts = slice_get_within ts j h.0 h.1 in
-        let most : suc j ≤ length ts = omega arith in
-        (most, (h.0, get_front ts us j below ∙ h.1, token_moved limits ts (ts ++ us) (suc j) h.0 (λ f. front_earlier ts us (suc j) f most) (λ f. earlier_front ts us (suc j) f most) r h.2))
+front_reason limits ts us zero r h = (let is = h.1 in cc)
+front_reason limits ts us (suc j) r h =
+    let below : j < length ts = slice_get_within ts j h.0 h.1 in
+    let most : suc j ≤ length ts = omega arith in
+    (most, (h.0, get_front ts us j below ∙ h.1, token_moved limits ts (ts ++ us) (suc j) h.0 (λ f. front_earlier ts us (suc j) f most) (λ f. earlier_front ts us (suc j) f most) r h.2))
 
 -- the first fault stays the first, whatever tokens follow
 pub first_fault_kept : (limits : Limits) (ts us : List (List ℕ)) (i : ℕ) (r : Reason) → IsFirstFault limits ts i r → IsFirstFault limits (ts ++ us) i r
@@ -219,12 +209,9 @@ next_first limits es w us r clean f = record {
     | inr more ↦ more
   ];
   least = λ other given.
-      let same : given.0 ≡ w = same_some given.0 w (sym given.1 ∙ get_next es w us) in
+      let same : given.0 ≡ w = same_Some given.0 w (sym given.1 ∙ get_next es w us) in
       f.least other (from_token limits es w us other (subst (λ v. TokenHas limits AnyForm (map spell es ++ w ∷ us) (suc (length es)) v other) same given.2));
 }
-  where
-    same_some : (v x : List ℕ) → Some v ≡ Some x → v ≡ x
-    same_some v x p = cc
 
 -- tokens that are judged up to one that is refused
 pub stops_first : (limits : Limits) (es : List Event) (ts : List (List ℕ)) (all : List Event) (r : Reason) → IsClean limits es → StopsAt limits es ts all r → IsFirstFault limits (map spell es ++ ts) (suc (length all)) r

@@ -1,5 +1,5 @@
 -- The fault that the tables find is the least reason of the event.
-use Rattle.std.proofs.Common.{◌≡◌, ◌≢◌, inl, inr, ℕ, zero, suc, ◌+◌, ◌<◌, ◌≤◌, Bool, true, false, List, [], ◌∷◌, length, Some, refl, sym, subst, arith, nat_lt}
+use Rattle.std.proofs.Common.{◌≡◌, ◌≢◌, inl, inr, ℕ, zero, suc, ◌+◌, ◌<◌, ◌≤◌, Bool, true, false, List, [], ◌∷◌, length, refl, sym, subst, arith, nat_lt}
 use Rattle.std.specs.Prelude.{◌==◌, ◌&&◌, ◌||◌, map, Contains, slice_index, slice_index_or}
 use Rattle.std.specs.List.{list_any, list_all, AllByRecursion}
 use Rattle.std.specs.List.Sorted.{IsStrictlyIncreasing}
@@ -63,9 +63,6 @@ lower_reasons n events e fits open_still _ has = omega arith
 pub record IsLeast (n : ℕ) (events : List Event) (e : Event) (r : Reason) : Type 0 where
   pub has : EventHas n (IsAmong events) e r
   pub least : (s : Reason) → EventHas n (IsAmong events) e s → reason_number r ≤ reason_number s
-
-pub some_is : (r s : Reason) → Some r ≡ Some s → r ≡ s
-some_is r s e = cc
 
 -- ---- each kind of event
 

@@ -1,8 +1,7 @@
 -- The refusal of a text whose tokens spell events, from the reasons that these have among themselves.
-use Rattle.std.proofs.Common.{◌≡◌, ◌≢◌, inl, inr, ℕ, zero, suc, ◌+◌, ◌-◌, ◌<◌, ◌≤◌, List, map, length, Option, Some, None, refl, ap, sym, subst, ◌∙◌, arith}
+use Rattle.std.proofs.Common.{◌≡◌, ◌≢◌, inl, inr, ℕ, ◌+◌, ◌-◌, ◌<◌, ◌≤◌, List, map, length, Option, Some, None, refl, ap, sym, subst, ◌∙◌, arith}
 use Rattle.std.specs.Option.{option_map}
 use Rattle.std.proofs.lemmas.List.{length-map}
-use Rattle.std.proofs.lemmas.Option.{slice_get_within}
 use Rattle.sia_events.specs.Limits.{Limits}
 use Rattle.sia_events.specs.declared.event.Event.{Event}
 use Rattle.sia_events.specs.declared.event.Event.TheVariants.{Write, Commit, Abort}
@@ -15,6 +14,7 @@ use Rattle.sia_events.specs.Text.{spell, StandsFor}
 use Rattle.sia_events.specs.Refusals.{IsInRange, EventHas, IsEarlier, TokenHas, HasReason, AnyForm, IsBegin, IsEmptyRange, HasBadList, IsAccepted}
 use Rattle.sia_events.proofs.Shared.Spelling.{spell_injective}
 use Rattle.sia_events.proofs.Writing.WellFormed.{IsBefore, at_place-map, before_earlier, earlier_before, moved}
+use Rattle.sia_events.proofs.Shared.TransactionDecisions.{place_within}
 
 -- a reason of a token that spells an event is one of the event, or there are too many
 token_event : (limits : Limits) (h : List Event) (i : ℕ) (e : Event) (r : Reason) → i ≢ limits.events + 1 → TokenHas limits AnyForm (map spell h) i (spell e) r → EventHas (i - 1) (IsBefore h i) e r
@@ -69,15 +69,8 @@ accepted_from limits text h stands few short each NoMemory refusal = refusal
 accepted_from limits text h stands few short each TextTooLong refusal = omega arith
 accepted_from limits text h stands few short each (Refused i r) refusal = none (subst (λ ts. HasReason limits ts i r) stands refusal.1.has)
   where
-    within : HasReason limits (map spell h) i r → i ≤ limits.events
-    within has = place_of i has.1
-      where
-        place_of : (j : ℕ) → at_place (map spell h) j ≡ Some has.0 → j ≤ limits.events
-        place_of zero at = omega arith
-        place_of (suc j) at = let below : j < length (map spell h) = slice_get_within (map spell h) j has.0 at in omega (arith, length-map h spell)
-
     none : ¬ HasReason limits (map spell h) i r
     none has =
-        let most : i ≤ limits.events = within has in
+        let most : i ≤ limits.events = (let within = (place_within (map spell h) i has.0 has.1).1 in omega (arith, length-map h spell)) in
         let found = place_event limits h i r (λ is. omega arith) has in
         fit_has_none (i - 1) (IsBefore h i) found.0 (each i found.0 found.1) r found.2

@@ -1,16 +1,15 @@
 -- A pair is read from the bytes that spell it alone, and so it is read again where these stand again.
-use Rattle.std.proofs.Common.{inl, inr, ◌≡◌, ℕ, zero, suc, ◌+◌, ◌-◌, ◌%◌, ◌^◌, ◌<◌, ◌≤◌, Bool, true, false, not, cond, List, [], ◌∷◌, ◌++◌, length, take, drop, map, get_or, Option, Some, Result, Ok, Err, refl, ap, sym, subst, ◌∙◌, append_assoc, map-id, nat_eq, nat_lt, w8, arith}
-use Rattle.std.specs.Prelude.{◌&&◌, ◌==◌}
+use Rattle.std.proofs.Common.{inl, inr, ◌≡◌, ℕ, zero, suc, ◌+◌, ◌-◌, ◌%◌, ◌^◌, ◌<◌, ◌≤◌, Bool, true, false, not, cond, List, [], ◌∷◌, ◌++◌, length, take, drop, map, get_or, Some, Result, Ok, Err, refl, ap, sym, subst, ◌∙◌, append_assoc, map-id, nat_eq, w8, arith}
 use Rattle.std.specs.List.{prefix_len}
 use Rattle.std.specs.Simd.Lanes.{mask_l, zip2, top}
 use Rattle.std.proofs.lemmas.Simd.{tops_compared, mask_l-mod, length-zip2, get_or-zip2}
 use Rattle.std.proofs.lemmas.Bool.Decides.{nat_tests}
-use Rattle.std.proofs.lemmas.List.{take-append-drop, length-append, length-take-le, get_or-take, get_or_append_left}
+use Rattle.std.proofs.lemmas.List.{take-append-drop, length-append, length-take-le, get_or-take}
 use Rattle.std.proofs.lemmas.List.Sums.{prefix_len_passes, prefix_len-le-length, prefix_len-drop_no}
-use Rattle.std.proofs.Math.Seq.{take-append_seam, drop-append_seam}
+use Rattle.std.proofs.Math.Seq.{take-append_seam}
 use Rattle.sia_events.specs.declared.fault.Reason.{Reason}
 use Rattle.sia_events.specs.declared.fault.Reason.TheVariants.{BadEvent}
-use Rattle.sia_events.specs.Parsing.{◌>>=◌, is_digit, digits_len, digits_value, narrow, number_at, after_byte, pair_from, pair_at, SpellsPair}
+use Rattle.sia_events.specs.Parsing.{is_digit, digits_len, after_byte, pair_at, SpellsPair}
 use Rattle.sia_events.specs.Text.{numeral}
 use Rattle.sia_events.proofs.Shared.Numerals.{StopsDigits}
 use Rattle.sia_events.proofs.Shared.Spelling.{colon}
