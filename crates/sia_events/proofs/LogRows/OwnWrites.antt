@@ -2,7 +2,7 @@
 use Rattle.std.proofs.Common.{◌≡◌, ◌≢◌, ◌⊎◌, inl, inr, ℕ, zero, suc, ◌+◌, ◌-◌, ◌<◌, ◌≤◌, Bool, true, false, List, [], ◌∷◌, ◌++◌, length, map, set, Some, None, refl, sym, subst, ◌∙◌, ap, ap₂, get_or, Option, arith, slice_get}
 use Rattle.std.specs.Prelude.{◌==◌, ◌*◌, IfNone}
 use Rattle.std.proofs.lemmas.List.{length-append, length-map, map-append}
-use Rattle.std.proofs.lemmas.Option.{slice_get_within, slice_get-get_or, get_or_from_slice_get}
+use Rattle.std.proofs.lemmas.Option.{slice_get_within, slice_get-get_or, get_or_from_slice_get, slice_get-map}
 use Rattle.std.proofs.lemmas.Bool.Decides.{nat_tests}
 use Rattle.std.proofs.lemmas.Bool.{eqb-true}
 use Rattle.sia_events.specs.declared.log.WriteRow.{WriteRow}
@@ -13,6 +13,7 @@ use Rattle.sia_events.specs.OwnWrites.{Tracks, IsOwn, IsNoneOf, new_write, write
 use Rattle.sia_events.proofs.LogRows.Logs.{front_get}
 use Rattle.sia_events.proofs.LogRows.Finders.{below_append, below_none}
 use Rattle.sia_events.proofs.LogRows.RowsRead.{push_cases, last_there, set_cases, set_here, set_apart}
+use Rattle.std.specs.Option.{option_map}
 
 one_writer : (xs : List Writer) (i : ℕ) (x y : Writer) → slice_get xs i ≡ Some x → slice_get xs i ≡ Some y → x ≡ y
 one_writer xs i x y a b = let e : Some x ≡ Some y = sym a ∙ b in cc
@@ -35,9 +36,7 @@ none_tracked o writers before none = record {
 }
 
 code_of : (rows : List WriteRow) (n txn key : ℕ) (w : WriteRow) → slice_get rows n ≡ Some w → w.txn ≡ txn → w.key ≡ key → slice_get (map write_code rows) n ≡ Some (txn * 4294967296 + key)
-code_of [] n txn key w at is_txn is_key = absurd (let e : None ≡ Some w = at in cc)
-code_of (x ∷ xs) zero txn key w at is_txn is_key = let e : x ≡ w = (let j : Some x ≡ Some w = at in cc) in ap (λ z. Some (write_code z)) e ∙ ap₂ (λ a b. Some (a * 4294967296 + b)) is_txn is_key
-code_of (x ∷ xs) (suc n) txn key w at is_txn is_key = code_of xs n txn key w at is_txn is_key
+code_of rows n txn key w at is_txn is_key = slice_get-map write_code rows n ∙ ap (option_map write_code) at ∙ ap₂ (λ a b. Some (a * 4294967296 + b)) is_txn is_key
 
 pub own_code : (rows : List WriteRow) (txn key at : ℕ) (d : WriteRow) → 0 < at → IsOwn rows txn at → (get_or rows (at - 1) d).key ≡ key → slice_get (map write_code rows) (at - 1) ≡ Some (txn * 4294967296 + key)
 own_code rows txn key at d above own is = let u = own above in code_of rows (at - 1) txn key u.0 u.1 u.2 (ap (λ (w : WriteRow). w.key) (sym (get_or_from_slice_get rows (at - 1) u.0 d u.1)) ∙ is)

@@ -8,7 +8,7 @@ use Rattle.std.proofs.Math.Seq.{drop-append_seam}
 use Rattle.std.proofs.lemmas.List.{length-map, length-append, map-append, append-nil, take-append-le, take_all}
 use Rattle.std.proofs.Math.Seq.{take-append_seam, get_or-append_seam}
 use Rattle.std.proofs.lemmas.List.Elements.{All-push, All-drop}
-use Rattle.std.proofs.lemmas.Option.{slice_get_within, get_or_from_slice_get, slice_get-get_or, same_Some}
+use Rattle.std.proofs.lemmas.Option.{slice_get_within, get_or_from_slice_get, slice_get-get_or, same_Some, slice_get-map}
 use Rattle.sia_events.specs.declared.event.Event.{Event}
 use Rattle.sia_events.specs.declared.log.TxnRow.{TxnRow}
 use Rattle.sia_events.specs.declared.log.WriteRow.{WriteRow}
@@ -46,6 +46,7 @@ use Rattle.sia_events.proofs.LogRows.Lived.{to_get, all_set, lives_more, lives_n
 use Rattle.sia_events.proofs.LogRows.Logs.{IsFront, front_get, seen_more, front_same, front_entered, Grows, events_same, extends, all_more, few_writes, marked_more, pushed_sound, grows_step, front_step, writes_kept, ranges_kept, pair_grown, range_grown, pair_same, map_same}
 use Rattle.sia_events.proofs.LogRows.RowsRead.{push_cases, set_cases, last_there}
 use Rattle.std.proofs.lemmas.Bool.{ne_eqb, false_from_ne_true}
+use Rattle.std.specs.Option.{option_map}
 
 pub found_of : (d : Draft) → Knows d → AreFound d
 unfolding Knows
@@ -61,9 +62,7 @@ map_read f (x ∷ xs) zero y at = (x, refl, (let e : Some (f x) ≡ Some y = at 
 map_read f (x ∷ xs) (suc n) y at = map_read f xs n y at
 
 pub map_get : {A B : Type 0} (f : A → B) (xs : List A) (n : ℕ) (x : A) → slice_get xs n ≡ Some x → slice_get (map f xs) n ≡ Some (f x)
-map_get f [] n x at = absurd (let e : None ≡ Some x = at in cc)
-map_get f (y ∷ xs) zero x at = ap (λ z. Some (f z)) (let e : Some y ≡ Some x = at in (let r : y ≡ x = cc in r))
-map_get f (y ∷ xs) (suc n) x at = map_get f xs n x at
+map_get f xs n x at = slice_get-map f xs n ∙ ap (option_map f) at
 
 any_at : {A : Type 0} (p : A → Bool) (xs : List A) → list_any p xs ≡ true → (n : ℕ) × (x : A) × (slice_get xs n ≡ Some x) × (p x ≡ true)
 any_at p [] some = absurd cc
