@@ -94,6 +94,7 @@ names_push h e = four
     (ap (distinct same_pair) (flat_push writes_in h e) ∙ fold-append (entered same_pair) [] (flat_map writes_in h) (writes_in e))
     (flat_push ranges_in h e)
 
+-- names that stand once
 pub once_push : (xs : List ℕ) (x : ℕ) → AreOnce xs → IsNew xs x → AreOnce (xs ++ x ∷ [])
 once_push xs x once new = λ i j v at_i at_j. elim (push_cases xs x i v at_i) [
   | inl a ↦ elim (push_cases xs x j v at_j) [

@@ -74,6 +74,7 @@ module _ (f g : Finder) (name n : ℕ) (p : IsGrown f g name n) where
     by_name true same = let e : x ≡ name = eqb-true x name same in subst (λ (y : ℕ). IsInSlots g names y ⊎ IsInTree g names y) (sym e) (inr (n, p.here, named, taken_grown name 8 p.taken))
     by_name false other = inr (m, p.others x (other_in_tree name x other) ∙ at, is, taken_grown x 8 taken)
 
+-- more names leave those before as they are
 reaches_more : (f : Finder) (names more : List ℕ) (x : ℕ) → Reaches f names x → Reaches f (names ++ more) x
 unfolding Reaches
 reaches_more f names more x (inl (d, m, less, at, is, taken)) = inl (d, m, less, at, get_more names more m x is, taken)

@@ -48,7 +48,7 @@ last_below P decide (suc n) = elim (decide n) [
   ]
 ]
 
--- two statements, or three
+-- both of two statements, and all of three
 pub both : (P Q : Type 0) → Decided P → Decided Q → Decided (P × Q)
 both P Q (inl p) (inl q) = inl (p, q)
 both P Q (inl p) (inr n) = inr (λ b. n b.1)

@@ -41,7 +41,7 @@ pairs_long p (q ∷ ps) rest =
     let h = pairs_long q ps rest in
     omega (arith, length-append (numeral p.0) (58 ∷ (numeral p.1 ++ (44 ∷ pairs_text q ps rest))), length-append (numeral p.1) (44 ∷ pairs_text q ps rest))
 
--- what follows an upper end, up to the bracket open_bracket
+-- what follows an upper end, up to the closing bracket
 list_again : (listed : List (ℕ × ℕ)) → list_at (list_text listed) ≡ Ok (narrow_list listed, 93 ∷ [])
 unfolding list_at pairs_at
 list_again [] = refl
