@@ -1,10 +1,10 @@
 -- The faults that the tables find are the reasons that an event has.
 use Rattle.std.proofs.Common.{◌≡◌, ◌≢◌, ◌⊎◌, inl, inr, ℕ, zero, suc, ◌+◌, ◌<◌, ◌≤◌, Bool, true, false, cond, List, [], ◌∷◌, length, slice_get, Option, Some, None, refl, ap, sym, subst, ◌∙◌, arith, nat_lt}
-use Rattle.std.specs.Prelude.{◌==◌, ◌&&◌, ◌||◌, not, map, Contains, slice_index, slice_index_or}
+use Rattle.std.specs.Prelude.{◌==◌, ◌&&◌, ◌||◌, not, map, Contains, slice_index}
 use Rattle.std.specs.List.{list_any, list_all, AllByRecursion}
 use Rattle.std.specs.List.Sorted.{IsStrictlyIncreasing}
 use Rattle.std.proofs.lemmas.List.Elements.{All-from_recursion}
-use Rattle.std.proofs.lemmas.Bool.{eqb-true, and_parts, not-true}
+use Rattle.std.proofs.lemmas.Bool.{eqb-true, or_cases, and_parts, not-true}
 use Rattle.std.proofs.lemmas.Bool.Decides.{nat_tests}
 use Rattle.sia_events.specs.declared.event.Event.{Event}
 use Rattle.sia_events.specs.declared.event.Event.TheVariants.{Write, Commit, Abort}
@@ -19,19 +19,15 @@ IsAmong events e = (j : ℕ) × (slice_get events j ≡ Some e)
 
 pub any_among : (test : Event → Bool) (events : List Event) → list_any test events ≡ true → (e : Event) × IsAmong events e × (test e ≡ true)
 any_among test [] p = absurd cc
-any_among test (e ∷ events) p = by_test (λ q. any_among test events q) (test e) refl p
-  where
-    by_test : (list_any test events ≡ true → (f : Event) × IsAmong events f × (test f ≡ true)) → (b : Bool) → test e ≡ b → (b || list_any test events) ≡ true → (f : Event) × IsAmong (e ∷ events) f × (test f ≡ true)
-    by_test later true q p = (e, (0, refl), q)
-    by_test later false q p = (let h = later p in (h.0, (suc h.1.0, h.1.1), h.2))
+any_among test (e ∷ events) p = elim (or_cases (test e) (list_any test events) p) [
+  | inl here ↦ (e, (0, refl), here)
+  | inr later ↦ (let h = any_among test events later in (h.0, (suc h.1.0, h.1.1), h.2))
+]
 
 pub among_any : (test : Event → Bool) (events : List Event) (e : Event) → IsAmong events e → test e ≡ true → list_any test events ≡ true
-among_any test events e a p = at_index events a.0 a.1
-  where
-    at_index : (es : List Event) (j : ℕ) → slice_get es j ≡ Some e → list_any test es ≡ true
-    at_index [] j is = cc
-    at_index (f ∷ es) zero is = (let same : f ≡ e = cc in rw (ap test same ∙ p) refl)
-    at_index (f ∷ es) (suc j) is = rw (at_index es j is) (or-true (test f))
+among_any test [] e (j, is) p = cc
+among_any test (f ∷ es) e (zero, is) p = (let same : f ≡ e = cc in rw (ap test same ∙ p) refl)
+among_any test (f ∷ es) e (suc j, is) p = rw (among_any test es e (j, is) p) (or-true (test f))
 
 -- ---- what the tests say
 
@@ -75,12 +71,11 @@ explained events k v p other =
     subst (IsAmong events) (writes_is k v found.0 found.2) found.1
 
 pub all_explained : (events : List Event) (listed : List (ℕ × ℕ)) → list_all (is_explained events) listed ≡ true → (k v : ℕ) → Contains listed (k, v) → v ≢ 0 → IsAmong events (Write v k)
-all_explained events listed p k v c other = at_index listed c.0 c.1 c.2 p
-  where
-    at_index : (ps : List (ℕ × ℕ)) (i : ℕ) → i < length ps → slice_index_or ps i (k, v) ≡ (k, v) → list_all (is_explained events) ps ≡ true → IsAmong events (Write v k)
-    at_index [] i below e q = absurd (omega arith)
-    at_index (p ∷ ps) zero below e q = (let h = and_parts (is_explained events p) (list_all (is_explained events) ps) q in explained events k v (subst (λ r. is_explained events r ≡ true) e h.0) other)
-    at_index (p ∷ ps) (suc i) below e q = (let h = and_parts (is_explained events p) (list_all (is_explained events) ps) q in at_index ps i (omega arith) e h.1)
+all_explained events [] q k v (i, below, e) other = absurd (omega arith)
+all_explained events (p ∷ ps) q k v (zero, below, e) other =
+    (let h = and_parts (is_explained events p) (list_all (is_explained events) ps) q in explained events k v (subst (λ r. is_explained events r ≡ true) e h.0) other)
+all_explained events (p ∷ ps) q k v (suc i, below, e) other =
+    (let h = and_parts (is_explained events p) (list_all (is_explained events) ps) q in all_explained events ps h.1 k v (i, omega arith, e) other)
 
 increasing_cons : (x : ℕ) (xs : List ℕ) → (0 < length xs → x < slice_index xs 0) → IsStrictlyIncreasing xs → IsStrictlyIncreasing (x ∷ xs)
 increasing_cons x xs first more zero below = first (omega arith)

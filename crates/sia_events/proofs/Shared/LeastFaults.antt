@@ -1,9 +1,9 @@
 -- The fault that the tables find is the least reason of the event.
-use Rattle.std.proofs.Common.{◌≡◌, ◌≢◌, inl, inr, ℕ, zero, suc, ◌+◌, ◌<◌, ◌≤◌, Bool, true, false, List, [], ◌∷◌, length, refl, sym, subst, arith, nat_lt}
-use Rattle.std.specs.Prelude.{◌==◌, ◌&&◌, ◌||◌, map, Contains, slice_index, slice_index_or}
+use Rattle.std.proofs.Common.{◌≡◌, ◌≢◌, inl, inr, ℕ, suc, ◌+◌, ◌<◌, ◌≤◌, true, false, List, [], ◌∷◌, refl, sym, subst, arith, nat_lt}
+use Rattle.std.specs.Prelude.{◌==◌, map, Contains, slice_index}
 use Rattle.std.specs.List.{list_any, list_all, AllByRecursion}
 use Rattle.std.specs.List.Sorted.{IsStrictlyIncreasing}
-use Rattle.std.proofs.lemmas.Bool.{eqb-true}
+use Rattle.std.proofs.lemmas.Bool.{eqb-true, eq-eqb, or_parts, and_cases}
 use Rattle.std.proofs.lemmas.Bool.Decides.{nat_tests}
 use Rattle.std.proofs.lemmas.List.Elements.{recursion_from_All}
 use Rattle.sia_events.specs.declared.event.Event.{Event}
@@ -71,28 +71,18 @@ acts_among events t p = let a = any_among (acts t) events p in (a.0, a.1, sym (e
 
 pub unwritten : (events : List Event) (k v : ℕ) → is_explained events (k, v) ≡ false → (v ≢ 0) × ¬ IsAmong events (Write v k)
 unfolding is_explained
-unwritten events k v p = by_zero (v == 0) refl p
-  where
-    by_zero : (b : Bool) → (v == 0) ≡ b → (b || list_any (writes (k, v)) events) ≡ false → (v ≢ 0) × ¬ IsAmong events (Write v k)
-    by_zero true e q = absurd cc
-    by_zero false e q = (
-      λ is. (let yes : (v == 0) ≡ true = grind (arith, nat_tests) in true_false (v == 0) yes e),
-      λ among. true_false (list_any (writes (k, v)) events) (among_any (writes (k, v)) events (Write v k) among (writes_same k v)) q,
-    )
+unwritten events k v p = let parts = or_parts (v == 0) (list_any (writes (k, v)) events) p in (
+  λ is. true_false (v == 0) (eq-eqb v 0 is) parts.0,
+  λ among. true_false (list_any (writes (k, v)) events) (among_any (writes (k, v)) events (Write v k) among (writes_same k v)) parts.1,
+)
 
 -- one of the listed pairs isn't explained
 pub unexplained_pair : (events : List Event) (listed : List (ℕ × ℕ)) → list_all (is_explained events) listed ≡ false → (p : ℕ × ℕ) × Contains listed p × (is_explained events p ≡ false)
 unexplained_pair events [] e = absurd cc
-unexplained_pair events (p ∷ ps) e = by_first (λ q. unexplained_pair events ps q) (is_explained events p) refl e
-  where
-    by_first : (list_all (is_explained events) ps ≡ false → (q : ℕ × ℕ) × Contains ps q × (is_explained events q ≡ false)) → (b : Bool) → is_explained events p ≡ b → (b && list_all (is_explained events) ps) ≡ false → (q : ℕ × ℕ) × Contains (p ∷ ps) q × (is_explained events q ≡ false)
-    by_first later true q f = (let h = later f in (h.0, (suc h.1.0, (let below = h.1.1 in omega arith), h.1.2), h.2))
-    by_first later false q f = (p, (0, omega arith, refl), q)
+unexplained_pair events (p ∷ ps) e = elim (and_cases (is_explained events p) (list_all (is_explained events) ps) e) [
+  | inl fails ↦ (p, (0, omega arith, refl), fails)
+  | inr later ↦ (let h = unexplained_pair events ps later in (h.0, (suc h.1.0, (let below = h.1.1 in omega arith), h.1.2), h.2))
+]
 
 pub listed_within : (lo hi : ℕ) (listed : List (ℕ × ℕ)) (p : ℕ × ℕ) → goes_up lo hi listed ≡ true → Contains listed p → (lo ≤ p.0) × (p.0 ≤ hi)
-listed_within lo hi listed p up c = at_index listed c.0 c.1 c.2 (recursion_from_All (λ q. (lo ≤ q.0) × (q.0 ≤ hi)) listed (good_list lo hi listed up).0)
-  where
-    at_index : (qs : List (ℕ × ℕ)) (i : ℕ) → i < length qs → slice_index_or qs i p ≡ p → AllByRecursion (λ q. (lo ≤ q.0) × (q.0 ≤ hi)) qs → (lo ≤ p.0) × (p.0 ≤ hi)
-    at_index [] i below e w = absurd (omega arith)
-    at_index (q ∷ qs) zero below e w = subst (λ r. (lo ≤ r.0) × (r.0 ≤ hi)) e w.0
-    at_index (q ∷ qs) (suc i) below e w = at_index qs i (omega arith) e w.1
+listed_within lo hi listed p up c = subst (λ r. (lo ≤ r.0) × (r.0 ≤ hi)) c.2 ((good_list lo hi listed up).0 c.0 p c.1)
