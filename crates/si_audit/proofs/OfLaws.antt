@@ -3,10 +3,8 @@ pub mod FindingsExist
 pub mod FormsLeft
 pub mod GsiHidden
 pub mod Levels
-pub mod OneExplanation
 pub mod OneReport
 pub mod OutcomesTold
 pub mod PlainTexts
 pub mod ReportExists
 pub mod ReportLines
-pub mod VerdictExists

@@ -1,5 +1,5 @@
 -- The line of counts: there is one, it is the only one, and nothing of it is left where reasons go.
-use Rattle.std.proofs.Common.{◌≡◌, ◌==◌, inl, inr, ℕ, suc, Bool, true, false, cond, List, [], ◌∷◌, ◌++◌, codes, flat_map, map, refl, ap, sym, subst, ◌∙◌, Contains}
+use Rattle.std.proofs.Common.{◌≡◌, ◌==◌, inl, inr, ℕ, suc, Bool, true, false, cond, List, [], ◌∷◌, ◌++◌, codes, flat_map, map, refl, ap, sym, subst, ◌∙◌, Contains, arith}
 use Rattle.std.proofs.lemmas.Bool.{cases_eq}
 use Rattle.sia_events.specs.declared.event.Anomaly.{Anomaly}
 use Rattle.sia_events.specs.declared.event.Event.{Event}
@@ -53,11 +53,7 @@ module _ (h : List Event) where
           ]
 
   pub one_counts : (reads : List BadRead) (writes : List BadWrite) (a b : List ℕ) → TellsCounts h reads writes a → TellsCounts h reads writes b → a ≡ b
-  one_counts reads writes a b x y =
-      let named : (name : Anomaly) → x.0 name ≡ y.0 name = λ name. one_number (HasName h name) reads (x.0 name) (y.0 name) (x.3 name) (y.3 name) in
-      let lost = one_number (IsLost h) writes x.1 y.1 x.4 y.4 in
-      let other = one_number (λ w. ¬ IsLost h w) writes x.2 y.2 x.5 y.5 in
-      x.6 ∙ (λ i. counts_line (flat_map count_words (all_counts (λ name. named name i) (lost i) (other i)))) ∙ sym y.6
+  one_counts reads writes a b x y = grind (arith, one_number)
 
 count_unbroken : (n : ℕ) (name : List ℕ) → IsUnbroken name → AreUnbroken (count_words (n, name))
 count_unbroken n name p = by_test (n == 0)
@@ -76,8 +72,7 @@ commas_unbroken (w ∷ words) p = unbroken_both (codes ", " ++ w) _ (unbroken_bo
 
 module _ (h : List Event) where
   line_goes : (words : List (List ℕ)) → AreUnbroken words → Leaves keep (counts_line words) []
-  line_goes [] p = leaves_nothing keep
-  line_goes (w ∷ words) p = reason_goes h (w ++ flat_map (λ v. codes ", " ++ v) words) (unbroken_both w _ p.0 (commas_unbroken words p.1))
+  line_goes words p = grind (arith, leaves_nothing, reason_goes, unbroken_both, commas_unbroken)
 
   pub counts_go : (reads : List BadRead) (writes : List BadWrite) (bytes : List ℕ) → TellsCounts h reads writes bytes → Leaves keep bytes []
   counts_go reads writes bytes told =

@@ -1,5 +1,5 @@
 -- The brief report is what is left of the others.
-use Rattle.std.proofs.Common.{◌≡◌, ◌==◌, ◌&&◌, ◌+◌, ◌/◌, ◌%◌, inl, inr, ℕ, Bool, true, false, not, cond, List, [], ◌∷◌, ◌++◌, flat_map, take, nat_le, nat_lt, codes, refl, ap, sym, subst, subst₂, ◌∙◌, append-nil, arith}
+use Rattle.std.proofs.Common.{◌≡◌, ◌&&◌, ◌+◌, inl, inr, ℕ, Bool, true, false, cond, List, [], ◌∷◌, ◌++◌, flat_map, take, codes, refl, ap, sym, subst, ◌∙◌, append-nil, arith}
 use Rattle.std.proofs.lemmas.Bool.{and_from, and_parts, not_from_false}
 use Rattle.std.proofs.lemmas.Bool.Decides.{nat_tests}
 use Rattle.sia_events.specs.Limits.{Limits}
@@ -7,12 +7,12 @@ use Rattle.sia_events.specs.declared.event.Event.{Event}
 use Rattle.sia_events.specs.declared.fault.Reason.{Reason}
 use Rattle.sia_events.specs.declared.fault.TextFault.{TextFault}
 use Rattle.sia_events.specs.declared.fault.TextFault.TheVariants.{NoMemory, TextTooLong, Refused}
-use Rattle.sia_events.specs.Locations.{hex_digit, is_plain_shown, shown, shown_byte}
+use Rattle.sia_events.specs.Locations.{shown, shown_byte}
 use Rattle.sia_events.specs.Text.{numeral}
 use Rattle.sia_parts.specs.declared.finding.Kind.TheVariants.{Rw}
 use Rattle.sia_graph.specs.declared.ssi.Dangerous.{Dangerous}
 use Rattle.sia_graph.specs.declared.judgement.Verdict.{Verdict}
-use Rattle.sia_graph.specs.declared.judgement.Verdict.TheVariants.{Order, Cycle}
+use Rattle.sia_graph.specs.declared.judgement.Verdict.TheVariants.{Cycle}
 use Rattle.si_audit.specs.Account.{Account}
 use Rattle.si_audit.specs.declared.options.Form.{Form}
 use Rattle.si_audit.specs.declared.options.Form.TheVariants.{Full, Brief, Explained}
@@ -47,16 +47,12 @@ module _ (keep : List ℕ → Bool) where
 
 -- how lines begin that stand in a report of this form and not in a brief one
 abbrev pub told_in : Form → List (List ℕ)
-told_in Full = codes "edge " ∷ codes "pivot " ∷ []
-told_in Brief = codes "edge " ∷ codes "pivot " ∷ []
 told_in Explained = told_in_explained
+told_in form = codes "edge " ∷ codes "pivot " ∷ []
 
 -- how the line of a verdict begins
 pub verdict_begins : (P : List ℕ → Type 0) → ((w : List ℕ) → P (111 ∷ w)) → ((w : List ℕ) → P (99 ∷ w)) → (v : Verdict) → P (verdict_line v)
-verdict_begins P order cycle (Order []) = order _
-verdict_begins P order cycle (Order (t ∷ ts)) = order _
-verdict_begins P order cycle (Cycle []) = cycle _
-verdict_begins P order cycle (Cycle (s ∷ steps)) = cycle _
+verdict_begins P order cycle v = grind arith
 
 dangerous_is : (d : Dangerous) → IsLine (dangerous_line d)
 dangerous_is d =
@@ -69,11 +65,10 @@ same_lines x s z v = ap (λ (y : List ℕ). (y ++ z) ++ v) (append-nil ((x ++ []
 
 module _ (h : List Event) where
   verdict_goes : (v : Verdict) (bytes : List ℕ) → TellsVerdict h v bytes → Leaves keep bytes []
-  verdict_goes (Order order) bytes is = subst (λ (b : List ℕ). Leaves keep b []) (sym is) (leaves_nothing keep)
-  verdict_goes (Cycle []) bytes is = subst (λ (b : List ℕ). Leaves keep b []) (sym is) (leaves_nothing keep)
   verdict_goes (Cycle (s ∷ steps)) bytes told =
       let edges = edges_round (s ∷ steps) s.txn in
       subst (λ (b : List ℕ). Leaves keep b []) (sym told.4) (leaves_both keep (all_go keep (TellsStep h) (step_goes h) edges told.0 told.2) (class_goes h edges told.1 told.3))
+  verdict_goes v bytes is = subst (λ (b : List ℕ). Leaves keep b []) (sym is) (leaves_nothing keep)
 
   danger_goes : (bytes : List ℕ) → TellsDanger h bytes → Leaves keep bytes []
   danger_goes bytes (inl x) = subst (λ (b : List ℕ). Leaves keep b []) (sym x.1) (leaves_nothing keep)
@@ -97,37 +92,22 @@ module _ (h : List Event) where
       subst (λ (b : List ℕ). Leaves keep b (report_text Brief a)) (sym is)
       (subst (Leaves keep _) (same_lines (events_line a.events a.committed a.aborted a.unfinished ++ isolation_line (is_empty a.bad_reads && is_empty a.bad_writes) ++ flat_map bad_read_line a.bad_reads ++ flat_map bad_write_line a.bad_writes ++ flat_map unexplained_line a.unexplained) (ssi_line a.pass) (serializable_line a.serializable) (verdict_line a.verdict)) all)
 
--- a digit of a byte that is shown by its number
-hex_unbroken : (n : ℕ) → not (hex_digit n == 10) ≡ true
-hex_unbroken n = by_test (nat_lt n 10)
-  where
-    by_test : (b : Bool) → not (cond b (48 + n) (87 + n) == 10) ≡ true
-    by_test true = not_from_false (48 + n == 10) (let other : (48 + n == 10) ≡ false = grind (arith, nat_tests) in other)
-    by_test false = not_from_false (87 + n == 10) (let other : (87 + n == 10) ≡ false = grind (arith, nat_tests) in other)
-
+-- what is shown of a byte
 byte_unbroken : (c : ℕ) → IsUnbroken (shown_byte c)
-byte_unbroken c = by_test (is_plain_shown c) refl
-  where
-    by_test : (b : Bool) → is_plain_shown c ≡ b → IsUnbroken (cond b (c ∷ []) (92 ∷ 120 ∷ hex_digit (c / 16) ∷ hex_digit (c % 16) ∷ []))
-    by_test true e =
-        let plain : nat_le 33 c ≡ true = (and_parts (nat_le 33 c) (nat_le c 126) (and_parts (nat_le 33 c && nat_le c 126) (not (c == 92)) e).0).0 in
-        let other : (c == 10) ≡ false = grind (arith, nat_tests) in
-        and_from _ _ (not_from_false (c == 10) other) refl
-    by_test false e = and_from _ _ (hex_unbroken (c / 16)) (and_from _ _ (hex_unbroken (c % 16)) refl)
+byte_unbroken c = grind (arith, and_parts, nat_tests, and_from, not_from_false)
 
 shown_unbroken : (bs : List ℕ) → IsUnbroken (flat_map shown_byte bs)
 shown_unbroken [] = refl
 shown_unbroken (c ∷ bs) = unbroken_both (shown_byte c) (flat_map shown_byte bs) (byte_unbroken c) (shown_unbroken bs)
 
 place_goes : (text : List ℕ) (fault : TextFault) (bytes : List ℕ) → TellsToken text fault bytes → Leaves keep bytes []
-place_goes text NoMemory bytes is = subst (λ (b : List ℕ). Leaves keep b []) (sym is) (leaves_nothing keep)
-place_goes text TextTooLong bytes is = subst (λ (b : List ℕ). Leaves keep b []) (sym is) (leaves_nothing keep)
 place_goes text (Refused n why) bytes (row, column, token, at, is) =
     subst (λ (b : List ℕ). Leaves keep b []) (sym is) (leaves_line keep (place_line row column token) false (
       codes "  line " ++ numeral row ++ codes ", column " ++ numeral column ++ codes ": " ++ shown token,
       glued (codes "  line ") (numeral row ∷ codes ", column " ∷ numeral column ∷ codes ": " ∷ shown token ∷ []) refl (numeral_unbroken row, (refl, (numeral_unbroken column, (refl, (shown_unbroken (take 60 token), tt))))),
       refl,
     ) refl)
+place_goes text fault bytes is = subst (λ (b : List ℕ). Leaves keep b []) (sym is) (leaves_nothing keep)
 
 text_leaves : (form : Form) (a : Account) → Leaves (stays (told_in Full)) (report_text form a) (report_text Brief a)
 text_leaves form a = report_leaves (stays (told_in Full)) true true true true true false false true true true (record {
@@ -145,9 +125,8 @@ text_leaves form a = report_leaves (stays (told_in Full)) true true true true tr
 
 -- of a report of each form that of the brief form is left
 pub account_leaves : (form : Form) (h : List Event) (a : Account) (bytes : List ℕ) → TellsAccount form h a bytes → Leaves (stays (told_in form)) bytes (report_text Brief a)
-account_leaves Full h a bytes is = subst (λ (b : List ℕ). Leaves (stays (told_in Full)) b (report_text Brief a)) (sym is) (text_leaves Full a)
-account_leaves Brief h a bytes is = subst (λ (b : List ℕ). Leaves (stays (told_in Full)) b (report_text Brief a)) (sym is) (text_leaves Brief a)
 account_leaves Explained h a bytes is = explained_leaves h a bytes is
+account_leaves form h a bytes is = subst (λ (b : List ℕ). Leaves (stays (told_in form)) b (report_text Brief a)) (sym is) (text_leaves form a)
 
 -- the refusal line stays in each form
 refusal_leaves : (words : List (List ℕ)) → stays words (refusal_line TextTooLong) ≡ true → ((token : ℕ) (r : Reason) → stays words (refusal_line (Refused token r)) ≡ true) → (fault : TextFault) → Leaves (stays words) (refusal_line fault) (refusal_line fault)
@@ -156,11 +135,8 @@ refusal_leaves words long one TextTooLong = leaves_line (stays words) (refusal_l
 refusal_leaves words long one (Refused token r) = leaves_line (stays words) (refusal_line (Refused token r)) true (refusal_is token r) (one token r)
 
 pub refused_leaves : (form : Form) (text : List ℕ) (fault : TextFault) (bytes : List ℕ) → TellsRefusal form text fault bytes → Leaves (stays (told_in form)) bytes (refusal_line fault)
-refused_leaves Full text fault bytes is = subst (λ (b : List ℕ). Leaves (stays (told_in Full)) b (refusal_line fault)) (sym is) (refusal_leaves (told_in Full) refl (λ token r. refl) fault)
-refused_leaves Brief text fault bytes is = subst (λ (b : List ℕ). Leaves (stays (told_in Full)) b (refusal_line fault)) (sym is) (refusal_leaves (told_in Full) refl (λ token r. refl) fault)
-refused_leaves Explained text fault bytes (place, token, is) =
-    let both : Leaves keep (refusal_line fault ++ place) (refusal_line fault ++ []) = leaves_both keep (refusal_leaves (told_in Explained) refl (λ token r. refl) fault) (place_goes text fault place token) in
-    subst₂ (Leaves keep) (sym is) (append-nil (refusal_line fault)) both
+refused_leaves Explained text fault bytes (place, token, is) = grind (arith, leaves_both, refusal_leaves, place_goes, append-nil)
+refused_leaves form text fault bytes is = subst (λ (b : List ℕ). Leaves (stays (told_in form)) b (refusal_line fault)) (sym is) (refusal_leaves (told_in form) refl (λ token r. refl) fault)
 
 brief_left : (limits : Limits) (form : Form) (text bytes brief : List ℕ) → IsReport limits form text bytes → IsReport limits Brief text brief → Leaves (stays (told_in form)) bytes brief
 brief_left limits form text bytes brief x y = elim (told_of_one limits form Brief text bytes brief x y) [

@@ -1,11 +1,11 @@
 -- Two texts with one full and one brief report, of which one meets the level gsi and the other doesn't.
-use Rattle.std.proofs.Common.{◌≡◌, ◌≢◌, ◌⊎◌, inl, inr, ℕ, zero, suc, ◌<◌, ◌≤◌, true, false, List, [], ◌∷◌, length, codes, Some, refl, ap, sym, subst, arith}
-use Rattle.std.specs.Prelude.{Contains, ⊤}
+use Rattle.std.proofs.Common.{◌≡◌, ◌≢◌, ◌⊎◌, inl, inr, ℕ, ◌<◌, ◌≤◌, true, false, List, [], ◌∷◌, length, codes, Some, refl, ap, sym, subst, arith}
+use Rattle.std.specs.Prelude.{⊤}
 use Rattle.std.proofs.lemmas.Option.{same_Some}
 use Rattle.sia_events.specs.Limits.{Limits, greatest}
 use Rattle.sia_events.specs.declared.event.Event.{Event}
 use Rattle.sia_events.specs.declared.event.Event.TheVariants.{Abort, Commit, Read, Write}
-use Rattle.sia_events.specs.Events.{actor, Saw}
+use Rattle.sia_events.specs.Events.{actor}
 use Rattle.sia_events.specs.Isolation.{IsBadRead, IsBadWrite, IsUnexplained}
 use Rattle.sia_events.specs.DangerousStructures.{IsPivot}
 use Rattle.sia_events.specs.Judging.{JudgedAll, judged}
@@ -33,7 +33,7 @@ use Rattle.sia_graph.specs.declared.judgement.Verdict.TheVariants.{Order}
 use Rattle.sia_graph.specs.Orders.{IsKeepingOrder}
 use Rattle.sia_graph.proofs.OfLaws.ReplayLaw.{replay_holds}
 use Rattle.sia_graph.proofs.Shared.Positions.{only_one_in}
-use Rattle.si_audit.proofs.Shared.KnownFits.{access_within}
+use Rattle.si_audit.proofs.Shared.SnapshotBounds.{access_within}
 use Rattle.si_audit.specs.Account.{Account, IsAccount}
 use Rattle.si_audit.specs.Laws.{HidesGsi}
 use Rattle.si_audit.specs.Lines.{report_text}
@@ -42,16 +42,10 @@ use Rattle.si_audit.specs.declared.options.Form.TheVariants.{Full, Brief}
 
 module _ {A : Type 0} (rank : A → List ℕ) (P : A → Type 0) where
   none_listed : ((x : A) → ¬ P x) → ListsBy rank P []
-  none_listed none = record {
-    ascending = λ i j d less below. absurd (omega arith);
-    each = λ x. ((λ c. absurd (contains_none x c)), (λ p. absurd (none x p)));
-  }
+  none_listed none = grind (arith, contains_none)
 
   one_listed : (x : A) → P x → ((y : A) → P y → x ≡ y) → ListsBy rank P (x ∷ [])
-  one_listed x p only = record {
-    ascending = λ i j d less below. absurd (omega arith);
-    each = λ y. ((λ c. subst P (only_one_in x y c) p), (λ q. subst (Contains (x ∷ [])) (only y q) (contains_first x [])));
-  }
+  one_listed x p only = grind (arith, only_one_in, contains_first)
 
 -- transaction 2 reads key 1 as it was before 1 committed, and then some version of some key
 abbrev history : ℕ → ℕ → List Event
@@ -79,13 +73,7 @@ account = record {
 module _ (k v : ℕ) where
   -- what is so of each event is so of what stands at a place
   each_event : (P : ℕ → Event → Type 0) → P 1 (Write 1 1) → P 2 (Write 1 2) → P 3 (Commit 1) → P 4 (Read 2 1 0) → P 5 (Read 2 k v) → (p : ℕ) (e : Event) → at_place (history k v) p ≡ Some e → P p e
-  each_event P a b c d f zero e at = cc
-  each_event P a b c d f (suc zero) e at = subst (P 1) (same_Some _ e at) a
-  each_event P a b c d f (suc (suc zero)) e at = subst (P 2) (same_Some _ e at) b
-  each_event P a b c d f (suc (suc (suc zero))) e at = subst (P 3) (same_Some _ e at) c
-  each_event P a b c d f (suc (suc (suc (suc zero)))) e at = subst (P 4) (same_Some _ e at) d
-  each_event P a b c d f (suc (suc (suc (suc (suc zero))))) e at = subst (P 5) (same_Some _ e at) f
-  each_event P a b c d f (suc (suc (suc (suc (suc (suc p)))))) e at = cc
+  each_event P a b c d f p e at = grind (arith, same_Some)
 
   commits_at : (t c : ℕ) → CommitsAt (history k v) t c → (t ≡ 1) × (c ≡ 3)
   commits_at t c at = each_event (λ p e. e ≡ Commit t → (t ≡ 1) × (p ≡ 3)) (λ e. cc) (λ e. cc) (λ e. (sym (ap actor e), refl)) (λ e. cc) (λ e. cc) c (Commit t) at refl
@@ -101,31 +89,19 @@ module _ (k v : ℕ) where
 
   -- and so of both reads
   each_read : (P : ℕ → ℕ → ℕ → ℕ → Type 0) → P 4 2 1 0 → P 5 2 k v → (p t j w : ℕ) → SawAt (history k v) p t j w → P p t j w
-  each_read P a b p t j w saw = each_event (λ q e. actor e ≡ t → Saw e j w → P q t j w) (λ e s. absurd s) (λ e s. absurd s) (λ e s. absurd s) (moved 4 1 0 a) (moved 5 k v b) p saw.0 saw.1 saw.2 saw.3
-    where
-      moved : (q i x : ℕ) → P q 2 i x → 2 ≡ t → (j ≡ i) × (w ≡ x) → P q t j w
-      moved q i x given e s = subst (λ (u : ℕ). P q u j w) e (subst (λ (y : ℕ). P q 2 y w) (sym s.0) (subst (P q 2 i) (sym s.1) given))
+  each_read P a b p t j w saw = grind (arith, each_event)
 
   no_own : (j p : ℕ) → ¬ WroteBefore (history k v) 2 j p
   no_own j p w = let one : ◌≡◌ {A = ℕ} 2 1 = writer 2 j w.0 w.2 in omega arith
 
   none_before : (t u : ℕ) → ¬ CommitsBefore (history k v) t u
-  none_before t u b =
-      let c : b.0 ≡ 3 = (commits_at t b.0 b.2).1 in
-      let d : b.1 ≡ 3 = (commits_at u b.1 b.3).1 in
-      let less : b.0 < b.1 = b.4 in
-      omega arith
+  none_before t u b = grind (arith, commits_at)
 
   none_read : (p t j w : ℕ) → IsCommitted (history k v) t → ¬ SawAt (history k v) p t j w
-  none_read p t j w c saw =
-      let one : t ≡ 1 = (commits_at t c.0 c.1).0 in
-      let two : t ≡ 2 = each_read (λ q u i x. u ≡ 2) refl refl p t j w saw in
-      omega arith
+  none_read p t j w c saw = grind (arith, commits_at, each_read)
 
   no_edge : (kind : Kind) (t u j : ℕ) → ¬ EdgeOfKind (history k v) kind t u j
-  no_edge Ww t u j e = none_before t u e.2
-  no_edge Wr t u j e = none_read e.3 u j e.4 e.2 e.5
-  no_edge Rw t u j e = none_read e.3 t j e.4 e.1 e.5
+  no_edge kind t u j e = grind (arith, none_before, none_read)
 
   newest : (j : ℕ) → Wrote (history k v) 1 j → IsNewestVisible (history k v) 2 j 1
   newest j wrote = (

@@ -1,5 +1,5 @@
 -- Isolation is kept exactly where each start fits its transaction, and what meets a level meets those that ask for less.
-use Rattle.std.proofs.Common.{ℕ, List, refl}
+use Rattle.std.proofs.Common.{ℕ, List, refl, rules, arith}
 use Rattle.sia_events.specs.declared.event.Event.{Event}
 use Rattle.sia_events.specs.declared.event.Event.TheVariants.{Write}
 use Rattle.sia_events.specs.Isolation.{IsolationKept}
@@ -8,7 +8,7 @@ use Rattle.sia_events.specs.Transactions.{HasEvent, StartsAt}
 use Rattle.si_audit.specs.Laws.{SnapshotsLaw, CleanLaw, LevelsLaw}
 use Rattle.si_audit.specs.Snapshots.{Fits, FitsStart, IsGeneralized, IsSnapshot}
 use Rattle.si_audit.proofs.Shared.SnapshotsExist.{between, none_told}
-use Rattle.si_audit.proofs.Shared.SnapshotStarts.{fits_start, start_before}
+use Rattle.si_audit.proofs.Shared.SnapshotBounds.{fits_start, start_before}
 use Rattle.sia_events.specs.Limits.{Limits, greatest, AreWithin}
 use Rattle.sia_events.proofs.OfLaws.Histories.{accepted_well_formed}
 use Rattle.sia_graph.proofs.OfLaws.SsiLaw.{ssi_holds}
@@ -36,19 +36,10 @@ module _ (h : List Event) (wf : IsWellFormed h) where
   kept_generalized kept t has = let fits = kept_fits kept t has in (fits.0, snapshot_of_start t fits.0 fits.1 fits.2)
 
 pub snapshots_hold : (h : List Event) → IsWellFormed h → SnapshotsLaw h
-snapshots_hold h wf = record {
-  kept = (kept_fits h wf, fits_kept h wf);
-  start = snapshot_of_start h wf;
-  interval = between h wf;
-  none = none_told h wf;
-}
+snapshots_hold h wf = search (rules, kept_fits, fits_kept, snapshot_of_start, between, none_told)
 
 pub levels_hold : (h : List Event) → IsWellFormed h → LevelsLaw h
-levels_hold h wf = record {
-  ssi = λ passes. ((passes.0, (ssi_holds h wf passes).serializable), passes.0);
-  serializable = λ meets. meets.0;
-  si = kept_generalized h wf;
-}
+levels_hold h wf = grind (arith, ssi_holds, kept_generalized)
 
 pub clean_holds : (limits : Limits) → AreWithin limits greatest → (text : List ℕ) → CleanLaw limits text
 clean_holds limits within text = record {

@@ -52,10 +52,7 @@ has_itself l is = subst (λ (ls : List (List ℕ)). Contains ls l) (sym (ap line
 -- lines that tell a bit
 module _ (line_of : Bool → List ℕ) (are : (b : Bool) → IsLine (line_of b)) (place : ℕ) (apart : get_or (line_of true) place 0 ≢ get_or (line_of false) place 0) where
   told_by : (b c : Bool) → line_of b ≡ line_of c → b ≡ c
-  told_by true true e = refl
-  told_by true false e = absurd (apart (ap (λ (l : List ℕ). get_or l place 0) e))
-  told_by false true e = absurd (apart (ap (λ (l : List ℕ). get_or l place 0) (sym e)))
-  told_by false false e = refl
+  told_by b c e = grind arith
 
   line_told : (keep : List ℕ → Bool) → ((b : Bool) → keep (line_of b) ≡ true) → (bytes : List ℕ) (is : Bool) → Leaves keep bytes (line_of is) → (b : Bool) → Contains (lines_of bytes) (line_of b) ↔ (is ≡ b)
   line_told keep stay bytes is leaves b =
@@ -97,11 +94,7 @@ module _ (kept pass serial : Bool) where
   one_left keep l is = record { lines = three; are = (isolation_is kept, (ssi_is pass, (serializable_is serial, tt))); whole = refl; rest = sym (is ∙ append-nil l) }
 
   three_told : AreTold (concat three) (λ b. kept ≡ b) (λ b. pass ≡ b) (λ b. serial ≡ b)
-  three_told = record {
-    isolation = line_told isolation_line isolation_is 10 (λ e. omega arith) (begins (codes "isolation " ∷ [])) (λ b. refl) (concat three) kept (one_left (begins (codes "isolation " ∷ [])) (isolation_line kept) refl);
-    ssi = line_told ssi_line ssi_is 4 (λ e. omega arith) (begins (codes "ssi " ∷ [])) (λ b. refl) (concat three) pass (one_left (begins (codes "ssi " ∷ [])) (ssi_line pass) refl);
-    serializable = line_told serializable_line serializable_is 13 (λ e. omega arith) (begins (codes "serializable " ∷ [])) (λ b. refl) (concat three) serial (one_left (begins (codes "serializable " ∷ [])) (serializable_line serial) refl);
-  }
+  three_told = grind (arith, line_told, isolation_is, one_left, ssi_is, serializable_is)
 
 abbrev IsToldOf : Account → List ℕ → Type 0
 IsToldOf a bytes = AreTold bytes (λ b. (is_empty a.bad_reads && is_empty a.bad_writes) ≡ b) (λ b. a.pass ≡ b) (λ b. a.serializable ≡ b)
@@ -148,8 +141,7 @@ turned : {A B : Type 0} → A ↔ B → B ↔ A
 turned p = (p.1, p.0)
 
 none_in : {A : Type 0} (xs : List A) → is_empty xs ≡ true → xs ≡ []
-none_in [] e = refl
-none_in (x ∷ xs) e = cc
+none_in xs e = grind arith
 
 -- isolation was kept exactly where there is no bad read and no bad write
 pub kept_told : (h : List Event) (reads : List BadRead) (writes : List BadWrite) → ListsBadReads h (λ _. ⊤) reads → ListsBadWrites h (λ _. ⊤) writes → ((is_empty reads && is_empty writes) ≡ true) ↔ IsolationKept h
@@ -171,15 +163,7 @@ is_false P b e = (λ no. false_from_ne_true b (λ is. no (e.0 is)), λ is p. let
 
 -- the same of two
 one_false : (P Q : Type 0) (b c : Bool) → (b ≡ true) ↔ P → (c ≡ true) ↔ Q → (¬ (P × Q)) ↔ ((b ≡ false) ⊎ (c ≡ false))
-one_false P Q b c p q = (by_bit b refl, back)
-  where
-    by_bit : (x : Bool) → b ≡ x → ¬ (P × Q) → (b ≡ false) ⊎ (c ≡ false)
-    by_bit false e fails = inl e
-    by_bit true e fails = inr ((is_false Q c q).0 (λ has. fails (p.0 e, has)))
-
-    back : (b ≡ false) ⊎ (c ≡ false) → ¬ (P × Q)
-    back (inl e) both = (is_false P b p).1 e both.0
-    back (inr e) both = (is_false Q c q).1 e both.1
+one_false P Q b c p q = grind (arith, is_false)
 
 module _ (limits : Limits) (text : List ℕ) (h : List Event) (accepted : IsAccepted limits text) (stands : StandsFor text h) where
   clean_where : (level : Level) → IsOutcome limits level text Clean ↔ Meets level h
@@ -219,20 +203,11 @@ module _ (limits : Limits) (text : List ℕ) (fault : TextFault) (refusal : IsRe
   }
 
 -- a refusal line says so, whatever stands below it
-begins_refused : (limits : Limits) (text : List ℕ) (fault : TextFault) (below : List ℕ) → IsRefusal limits text fault → (begins (codes "refused: " ∷ []) (refusal_line fault) ≡ true) × (begins (codes "refused: " ∷ []) (refusal_line fault ++ below) ≡ true)
-begins_refused limits text NoMemory below refusal = absurd refusal
-begins_refused limits text TextTooLong below refusal = (refl, refl)
-begins_refused limits text (RefusedToken token r) below refusal = (refl, refl)
-
 refused_line_first : (limits : Limits) (form : Form) (text bytes : List ℕ) (fault : TextFault) → IsRefusal limits text fault → TellsRefusal form text fault bytes → begins (codes "refused: " ∷ []) bytes ≡ true
-refused_line_first limits Full text bytes fault refusal is = ap (begins (codes "refused: " ∷ [])) is ∙ (begins_refused limits text fault [] refusal).0
-refused_line_first limits Brief text bytes fault refusal is = ap (begins (codes "refused: " ∷ [])) is ∙ (begins_refused limits text fault [] refusal).0
-refused_line_first limits Explained text bytes fault refusal is = ap (begins (codes "refused: " ∷ [])) is.2 ∙ (begins_refused limits text fault is.0 refusal).1
+refused_line_first limits form text bytes fault refusal is = grind arith
 
 events_line_first : (form : Form) (h : List Event) (a : Account) (bytes : List ℕ) → TellsAccount form h a bytes → begins (codes "refused: " ∷ []) bytes ≡ false
-events_line_first Full h a bytes is = ap (begins (codes "refused: " ∷ [])) is
-events_line_first Brief h a bytes is = ap (begins (codes "refused: " ∷ [])) is
-events_line_first Explained h a bytes is = ap (begins (codes "refused: " ∷ [])) is.14
+events_line_first form h a bytes is = grind arith
 
 pub lines_tell : (limits : Limits) (form : Form) (text : List ℕ) → LinesLaw limits form text
 lines_tell limits form text bytes (inl p) = told_refused limits text p.0 p.1 bytes (told_of form bytes _ _ _ _ (refused_leaves form text p.0 bytes p.2) (refusal_told p.0 limits text p.1)) (refused_line_first limits form text bytes p.0 p.1 p.2)

@@ -1,14 +1,13 @@
 -- The lines of a report hold no LF but at their ends, those of its reasons neither, and what a filter leaves of them.
-use Rattle.std.proofs.Common.{◌≡◌, ◌==◌, ℕ, Bool, true, false, not, cond, ◌&&◌, List, [], ◌∷◌, ◌++◌, flat_map, filter, refl, ap, sym, ◌∙◌, append_assoc, append-nil, ◌≤◌, map, codes, arith, inl, inr, Option, Some, None, subst}
+use Rattle.std.proofs.Common.{◌≡◌, ◌==◌, ℕ, Bool, true, false, not, cond, ◌&&◌, List, [], ◌∷◌, ◌++◌, flat_map, filter, refl, ap, sym, ◌∙◌, append_assoc, append-nil, map, codes, arith, inl, inr, Option, subst}
 use Rattle.std.specs.List.{AllByRecursion, concat, join_with_byte}
 use Rattle.std.proofs.lemmas.Bool.{and_from, and_parts, not_from_false, or_parts}
 use Rattle.std.proofs.lemmas.List.Elements.{filter-append}
 use Rattle.std.proofs.lemmas.List.Folds.{concat-append}
 use Rattle.si_audit.specs.Laws.{before_lines, lines_of, onto_line, begins}
 use Rattle.std.proofs.lemmas.Bool.Decides.{nat_tests}
-use Rattle.sia_events.specs.Text.{numeral, spell}
+use Rattle.sia_events.specs.Text.{numeral}
 use Rattle.sia_events.specs.declared.fault.Reason.{Reason}
-use Rattle.sia_events.specs.declared.fault.Reason.TheVariants.{TooManyEvents, BadEvent, BadNumber, AlreadyEnded, AlreadyBegun, EmptyRange, BadList, NotWritten, BadStart}
 use Rattle.sia_events.specs.declared.fault.TextFault.TheVariants.{TextTooLong, Refused}
 use Rattle.sia_events.proofs.Shared.Numerals.{AreDigits, numeral-digits}
 use Rattle.sia_parts.specs.declared.finding.BadRead.{BadRead}
@@ -25,13 +24,12 @@ use Rattle.si_audit.specs.Account.{Account}
 use Rattle.si_audit.specs.declared.options.Form.{Form}
 use Rattle.si_audit.specs.Lines.{line, reason_words, refusal_line, kind_word, is_empty, bad_read_line, bad_write_line, unexplained_line, edge_line, first_words, pivot_line, edge_word, step_words, home_word, verdict_line, events_line, isolation_line, ssi_line, serializable_line, told, report_text}
 use Rattle.sia_events.specs.declared.event.Anomaly.{Anomaly}
-use Rattle.sia_events.specs.declared.event.Anomaly.TheVariants.{OwnWriteMissed, AbortedRead, UncommittedRead, FutureRead, Phantom, StaleRead}
 use Rattle.sia_events.specs.declared.event.Event.{Event}
 use Rattle.sia_events.specs.Places.{at_place}
-use Rattle.sia_events.specs.Telling.{about, spell_about, told_about, listing}
+use Rattle.sia_events.specs.Telling.{spell_about, told_about}
 use Rattle.sia_events.proofs.Shared.Canonical.{HasNoSeparator, IsToken, spell_token}
 use Rattle.sia_parts.specs.Telling.{TellsUnless, TellsVersion, event_words, start_words}
-use Rattle.si_audit.specs.Reasons.{TellsBadRead, TellsBadWrite, TellsClass, TellsConflict, TellsEvents, TellsSight, TellsStep, TellsUnexplained, allowed_words, anomaly_words, forbidden_words, reason, untold_of}
+use Rattle.si_audit.specs.Reasons.{TellsBadRead, TellsBadWrite, TellsClass, TellsConflict, TellsEvents, TellsSight, TellsStep, TellsUnexplained, allowed_words, anomaly_words, forbidden_words, reason}
 use Rattle.si_audit.specs.SnapshotLines.{TellsExcluded, TellsNone, TellsSnapshot, bare_words, bound_words, spell_bare}
 
 -- no byte is LF
@@ -55,25 +53,16 @@ lines_both [] ms p q = q
 lines_both (l ∷ ls) ms p q = (p.0, lines_both ls ms p.1 q)
 
 before_other : (c : ℕ) (ls : List (List ℕ)) → not (c == 10) ≡ true → before_lines c ls ≡ onto_line c ls
-before_other c ls other = by_test (c == 10) other
-  where
-    by_test : (b : Bool) → not b ≡ true → cond b ((c ∷ []) ∷ ls) (onto_line c ls) ≡ onto_line c ls
-    by_test true e = absurd cc
-    by_test false e = refl
+before_other c ls other = grind arith
 
 -- the first line, and those behind it
 first_line : (w ys : List ℕ) → is_unbroken w ≡ true → lines_of (w ++ 10 ∷ ys) ≡ (w ++ 10 ∷ []) ∷ lines_of ys
 first_line [] ys p = refl
-first_line (c ∷ w) ys p =
-    let parts = and_parts (not (c == 10)) (is_unbroken w) p in
-    ap (before_lines c) (first_line w ys parts.1) ∙ before_other c ((w ++ 10 ∷ []) ∷ lines_of ys) parts.0
+first_line (c ∷ w) ys p = grind (arith, and_parts, before_other, first_line w ys)
 
 pub lines_again : (ls : List (List ℕ)) → AreLines ls → lines_of (concat ls) ≡ ls
 lines_again [] are = refl
-lines_again (l ∷ ls) are =
-    let (w, unbroken, is) = are.0 in
-    ap (λ (x : List ℕ). lines_of (x ++ concat ls)) is ∙ ap lines_of (append_assoc w (10 ∷ []) (concat ls)) ∙ first_line w (concat ls) unbroken
-    ∙ (λ i. sym is i ∷ lines_again ls are.1 i)
+lines_again (l ∷ ls) are = grind (arith, append_assoc, first_line, lines_again ls)
 
 -- lines of which the filter leaves these bytes
 pub record Leaves (keep : List ℕ → Bool) (bytes left : List ℕ) : Type 0 where
@@ -87,12 +76,7 @@ module _ (keep : List ℕ → Bool) where
   leaves_nothing = record { lines = []; are = tt; whole = refl; rest = refl }
 
   pub leaves_both : {a b c d : List ℕ} → Leaves keep a b → Leaves keep c d → Leaves keep (a ++ c) (b ++ d)
-  leaves_both x y = record {
-    lines = x.lines ++ y.lines;
-    are = lines_both x.lines y.lines x.are y.are;
-    whole = (λ i. x.whole i ++ y.whole i) ∙ sym (concat-append x.lines y.lines);
-    rest = (λ i. x.rest i ++ y.rest i) ∙ sym (concat-append (filter keep x.lines) (filter keep y.lines)) ∙ ap concat (sym (filter-append keep x.lines y.lines));
-  }
+  leaves_both x y = grind (arith, lines_both, concat-append, filter-append)
 
   -- a line that stays, or goes
   pub leaves_line : (l : List ℕ) (stays : Bool) → IsLine l → keep l ≡ stays → Leaves keep l (cond stays l [])
@@ -104,10 +88,9 @@ module _ (keep : List ℕ → Bool) where
 
   -- the same of each thing's line
   pub leaves_each : {A : Type 0} (line_of : A → List ℕ) (stay : Bool) → ((x : A) → IsLine (line_of x)) → ((x : A) → keep (line_of x) ≡ stay) → (xs : List A) → Leaves keep (flat_map line_of xs) (cond stay (flat_map line_of xs) [])
-  leaves_each line_of true are e [] = leaves_nothing
-  leaves_each line_of false are e [] = leaves_nothing
   leaves_each line_of true are e (x ∷ xs) = leaves_both (leaves_line (line_of x) true (are x) (e x)) (leaves_each line_of true are e xs)
   leaves_each line_of false are e (x ∷ xs) = leaves_both (leaves_line (line_of x) false (are x) (e x)) (leaves_each line_of false are e xs)
+  leaves_each line_of stay are e xs = leaves_nothing
 
   kept_lines : (ls : List (List ℕ)) → AreLines ls → AreLines (filter keep ls)
   kept_lines [] are = tt
@@ -119,10 +102,7 @@ module _ (keep : List ℕ → Bool) where
 
   -- what is left is what the filter leaves of the lines of the bytes, and its lines are these
   pub what_is_left : (bytes left : List ℕ) → Leaves keep bytes left → (left ≡ concat (filter keep (lines_of bytes))) × (lines_of left ≡ filter keep (lines_of bytes))
-  what_is_left bytes left l =
-      let lines : lines_of bytes ≡ l.lines = ap lines_of l.whole ∙ lines_again l.lines l.are in
-      let kept : filter keep (lines_of bytes) ≡ filter keep l.lines = ap (filter keep) lines in
-      (l.rest ∙ ap concat (sym kept), ap lines_of l.rest ∙ lines_again (filter keep l.lines) (kept_lines l.lines l.are) ∙ sym kept)
+  what_is_left bytes left l = grind (arith, lines_again, kept_lines)
 
 -- a line that begins with none of these
 abbrev pub stays : List (List ℕ) → List ℕ → Bool
@@ -136,10 +116,7 @@ AreUnbroken ws = AllByRecursion IsUnbroken ws
 
 digits_unbroken : (bs : List ℕ) → AreDigits bs → IsUnbroken bs
 digits_unbroken [] d = refl
-digits_unbroken (c ∷ bs) d =
-    let low : 48 ≤ c = d.0.0 in
-    let other : (c == 10) ≡ false = grind (arith, nat_tests) in
-    and_from _ _ (not_from_false (c == 10) other) (digits_unbroken bs d.1)
+digits_unbroken (c ∷ bs) d = grind (arith, nat_tests, and_from, not_from_false, digits_unbroken bs)
 
 pub numeral_unbroken : (n : ℕ) → IsUnbroken (numeral n)
 numeral_unbroken n = digits_unbroken (numeral n) (numeral-digits n)
@@ -170,13 +147,10 @@ pub words_line : (ws : List (List ℕ)) → AreUnbroken ws → IsLine (line ws)
 words_line ws p = (join_with_byte 32 ws, joined ws p, refl)
 
 one_of : (b : Bool) (v w : List ℕ) → IsUnbroken v → IsUnbroken w → IsUnbroken (cond b v w)
-one_of true v w p q = p
-one_of false v w p q = q
+one_of b v w p q = grind arith
 
 kind_unbroken : (kind : Kind) → IsUnbroken (kind_word kind)
-kind_unbroken Ww = refl
-kind_unbroken Wr = refl
-kind_unbroken Rw = refl
+kind_unbroken kind = grind arith
 
 pub edge_unbroken : (kind : Kind) (key : ℕ) → IsUnbroken (edge_word kind key)
 edge_unbroken kind key = glued (codes ">") (kind_word kind ∷ codes ":" ∷ numeral key ∷ codes ">" ∷ []) refl (kind_unbroken kind, (refl, (numeral_unbroken key, (refl, tt))))
@@ -186,23 +160,14 @@ steps_unbroken [] = tt
 steps_unbroken (s ∷ steps) = (numeral_unbroken s.txn, (edge_unbroken s.kind s.key, steps_unbroken steps))
 
 home_unbroken : (steps : List Step) → AreUnbroken (home_word steps)
-home_unbroken [] = tt
-home_unbroken (s ∷ steps) = (numeral_unbroken s.txn, tt)
+home_unbroken steps = grind (arith, numeral_unbroken)
 
 firsts_unbroken : (ts : List ℕ) → AreUnbroken (first_words ts)
 firsts_unbroken [] = tt
 firsts_unbroken (t ∷ ts) = (refl, numerals_unbroken (t ∷ ts))
 
 reason_unbroken : (r : Reason) → IsUnbroken (reason_words r)
-reason_unbroken TooManyEvents = refl
-reason_unbroken BadEvent = refl
-reason_unbroken BadNumber = refl
-reason_unbroken AlreadyEnded = refl
-reason_unbroken AlreadyBegun = refl
-reason_unbroken EmptyRange = refl
-reason_unbroken BadList = refl
-reason_unbroken NotWritten = refl
-reason_unbroken BadStart = refl
+reason_unbroken r = grind arith
 
 pub events_is : (n c a u : ℕ) → IsLine (events_line n c a u)
 events_is n c a u = words_line (codes "events" ∷ numeral n ∷ codes "committed" ∷ numeral c ∷ codes "aborted" ∷ numeral a ∷ codes "open" ∷ numeral u ∷ []) (refl, (numeral_unbroken n, (refl, (numeral_unbroken c, (refl, (numeral_unbroken a, (refl, (numeral_unbroken u, tt))))))))
@@ -272,27 +237,19 @@ no_separator [] p = refl
 no_separator (c ∷ w) p = and_from _ _ (not_from_false _ (or_parts _ _ p.0).1) (no_separator w p.1)
 
 pub token_unbroken : (w : List ℕ) → IsToken w → IsUnbroken w
-token_unbroken [] p = absurd p
-token_unbroken (c ∷ w) p = no_separator (c ∷ w) p
+token_unbroken w p = grind (arith, no_separator)
 
 event_unbroken : (k : ℕ) (e : Option Event) → IsUnbroken (spell_about k e)
-event_unbroken k None = refl
-event_unbroken k (Some e) = token_unbroken (spell (about k e)) (spell_token (about k e))
+event_unbroken k e = grind (arith, token_unbroken, spell_token)
 
 anomaly_unbroken : (name : Anomaly) → IsUnbroken (anomaly_words name)
-anomaly_unbroken OwnWriteMissed = refl
-anomaly_unbroken AbortedRead = refl
-anomaly_unbroken UncommittedRead = refl
-anomaly_unbroken FutureRead = refl
-anomaly_unbroken Phantom = refl
-anomaly_unbroken StaleRead = refl
+anomaly_unbroken name = grind arith
 
 start_unbroken : (t s : ℕ) → IsUnbroken (start_words t s)
 start_unbroken t s = glued (codes "transaction ") (numeral t ∷ codes " starts after event " ∷ numeral s ∷ []) refl (numeral_unbroken t, (refl, (numeral_unbroken s, tt)))
 
 bare_unbroken : (e : Option Event) → IsUnbroken (spell_bare e)
-bare_unbroken None = refl
-bare_unbroken (Some e) = token_unbroken (spell (listing [] e)) (spell_token (listing [] e))
+bare_unbroken e = grind (arith, token_unbroken, spell_token)
 
 -- how lines begin that stand in an explained report and not in a brief one
 abbrev pub told_in_explained : List (List ℕ)
@@ -312,15 +269,10 @@ module _ (h : List Event) where
   ]
 
   sight_unbroken : (e : Edge) (words : List ℕ) → TellsSight h e words → IsUnbroken words
-  sight_unbroken e words (p, v, version, first, told, is) = subst IsUnbroken (sym is) (unbroken_both (event_words h e.key p) version (words_unbroken e.key p) (by_case told))
-    where
-      by_case : TellsUnless (untold_of e.kind e.src) h (codes "; ") e.key v [] version → IsUnbroken version
-      by_case (inl x) = subst IsUnbroken (sym x.1) refl
-      by_case (inr x) = subst IsUnbroken (sym x.3) (glued (codes "; ") (x.1 ∷ [] ∷ []) refl (version_unbroken e.key v x.1 x.2, (refl, tt)))
+  sight_unbroken e words p = grind (arith, unbroken_both, words_unbroken, glued, version_unbroken)
 
   conflict_unbroken : (b : BadWrite) (start words : List ℕ) → IsUnbroken start → TellsConflict h b start words → IsUnbroken words
-  conflict_unbroken b start words p (inl x) = subst IsUnbroken (sym x.2) (glued (codes "lost update: ") (start ∷ codes "; " ∷ event_words h b.key x.0 ∷ []) refl (p, (refl, (words_unbroken b.key x.0, tt))))
-  conflict_unbroken b start words p (inr x) = subst IsUnbroken (sym x.1) (unbroken_both (codes "write conflict: ") start refl p)
+  conflict_unbroken b start words p q = grind (arith, glued, words_unbroken, unbroken_both)
 
   two_unbroken : (one other words : List ℕ) → IsUnbroken one → IsUnbroken other → words ≡ one ++ codes "; " ++ other → IsUnbroken words
   two_unbroken one other words p q is = subst IsUnbroken (sym is) (glued one (codes "; " ∷ other ∷ []) p (refl, (q, tt)))

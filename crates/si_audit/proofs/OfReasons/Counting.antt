@@ -1,5 +1,5 @@
 -- How many of the things of a list there are, one thing after another, and the line that tells of it, one count after another.
-use Rattle.std.proofs.Common.{◌≡◌, ◌≢◌, ◌==◌, ◌+◌, ◌-◌, ◌^◌, ◌<◌, ◌≤◌, Fits, w64, inl, inr, Bor, ℕ, zero, suc, Bool, true, false, cond, Option, Some, None, List, [], ◌∷◌, ◌++◌, codes, flat_map, length, set, take, get_or, refl, ap, sym, subst, ◌∙◌, append-nil, append_assoc, arith, Contains, MatchOption, is_some}
+use Rattle.std.proofs.Common.{◌≡◌, ◌≢◌, ◌==◌, ◌+◌, ◌-◌, ◌^◌, ◌<◌, ◌≤◌, Fits, w64, inl, inr, Bor, ℕ, suc, true, cond, Option, List, [], ◌∷◌, ◌++◌, codes, flat_map, length, set, take, get_or, refl, ap, sym, subst, ◌∙◌, append-nil, append_assoc, arith, Contains, MatchOption, is_some}
 use Rattle.std.proofs.lemmas.Bool.{cases_eq, eqb-true, false≢true}
 use Rattle.std.proofs.lemmas.Grind.{flat_map-append, get_or-set_at}
 use Rattle.std.proofs.lemmas.List.Elements.{All-contains_itself}
@@ -51,12 +51,7 @@ by_number n = cond (n == 1) OwnWriteMissed (cond (n == 2) AbortedRead (cond (n =
 
 numbered : (name : Anomaly) → by_number (anomaly_number name) ≡ name
 unfolding by_number
-numbered OwnWriteMissed = refl
-numbered AbortedRead = refl
-numbered UncommittedRead = refl
-numbered FutureRead = refl
-numbered Phantom = refl
-numbered StaleRead = refl
+numbered name = grind (arith, by_number)
 
 pub same_anomaly : (a b : Anomaly) → anomaly_number a ≡ anomaly_number b → a ≡ b
 same_anomaly a b same = sym (numbered a) ∙ ap by_number same ∙ numbered b
@@ -67,8 +62,7 @@ at_index xs items i d same below = subst (λ l. Contains l (get_or xs i d)) same
 
 -- the answer is there
 pub found_there : {A : Type 0} (P : Type 0) (Q : A → Type 0) (o : Option A) → is_some o ≡ true → MatchOption o P Q → (a : A) × Q a
-found_there P Q None is some = absurd (false≢true is)
-found_there P Q (Some a) is some = (a, some)
+found_there P Q o is some = grind (arith, false≢true)
 
 -- before the end of the line
 abbrev pub begun : List (List ℕ) → List ℕ
@@ -88,8 +82,7 @@ abbrev pub AreBegun : List (ℕ × List ℕ) → List ℕ → List ℕ → List 
 AreBegun counts o out before end = (out ≡ o ++ begun (flat_map count_words counts)) × (before ≡ lead (flat_map count_words counts)) × (end ≡ tail (flat_map count_words counts))
 
 pub line_ends : (words : List (List ℕ)) → begun words ++ tail words ≡ counts_line words
-line_ends [] = refl
-line_ends (one ∷ more) = refl
+line_ends words = grind arith
 
 -- one more
 commas_more : (words : List (List ℕ)) (w : List ℕ) → flat_map (λ v. codes ", " ++ v) (words ++ w ∷ []) ≡ flat_map (λ v. codes ", " ++ v) words ++ (codes ", " ++ w)
@@ -97,8 +90,7 @@ commas_more [] w = append-nil (codes ", " ++ w)
 commas_more (v ∷ words) w = ap (λ (x : List ℕ). (codes ", " ++ v) ++ x) (commas_more words w) ∙ sym (append_assoc (codes ", " ++ v) (flat_map (λ x. codes ", " ++ x) words) (codes ", " ++ w))
 
 begun_more : (words : List (List ℕ)) (w : List ℕ) → begun (words ++ w ∷ []) ≡ begun words ++ (lead words ++ w)
-begun_more [] w = append-nil (codes "  " ++ w)
-begun_more (v ∷ words) w = ap (λ (x : List ℕ). (codes "  " ++ v) ++ x) (commas_more words w) ∙ sym (append_assoc (codes "  " ++ v) (flat_map (λ x. codes ", " ++ x) words) (codes ", " ++ w))
+begun_more words w = grind (arith, append-nil, commas_more, append_assoc)
 
 lead_more : (words : List (List ℕ)) (w : List ℕ) → codes ", " ≡ lead (words ++ w ∷ [])
 lead_more [] w = refl
@@ -113,50 +105,22 @@ words_more counts n name = flat_map-append count_words counts ((n, name) ∷ [])
 
 -- a name that none has
 pub none_more : (counts : List (ℕ × List ℕ)) (n : ℕ) (name o m before end : List ℕ) → n ≡ 0 → AreBegun counts o m before end → AreBegun (counts ++ (n, name) ∷ []) o m before end
-none_more counts n name o m before end none so =
-    let same : flat_map count_words counts ≡ flat_map count_words (counts ++ (n, name) ∷ []) =
-    sym (words_more counts n name ∙ ap (λ k. flat_map count_words counts ++ count_words (k, name)) none ∙ append-nil (flat_map count_words counts)) in
-    subst (λ (words : List (List ℕ)). (m ≡ o ++ begun words) × (before ≡ lead words) × (end ≡ tail words)) same so
+none_more counts n name o m before end none so = grind (arith, words_more, append-nil)
 
 -- one that some have
 counted : (n : ℕ) (name : List ℕ) → n ≢ 0 → count_words (n, name) ≡ (numeral n ++ codes " " ++ name) ∷ []
-counted n name some = by_test (n == 0) refl
-  where
-    by_test : (b : Bool) → n == 0 ≡ b → count_words (n, name) ≡ (numeral n ++ codes " " ++ name) ∷ []
-    by_test true e = absurd (some (eqb-true n 0 e))
-    by_test false e = ap (λ b. cond b [] ((numeral n ++ codes " " ++ name) ∷ [])) e
+counted n name some = grind (arith, eqb-true)
 
 pub some_more : (counts : List (ℕ × List ℕ)) (n : ℕ) (name o m p q before end : List ℕ) → n ≢ 0 → p ≡ m ++ before ++ numeral n ++ codes " " → q ≡ p ++ name
     → AreBegun counts o m before end → AreBegun (counts ++ (n, name) ∷ []) o q (codes ", ") (codes "\n")
-some_more counts n name o m p q before end some first second so =
-    let words = flat_map count_words counts in
-    let w : List ℕ = numeral n ++ codes " " ++ name in
-    let same : words ++ w ∷ [] ≡ flat_map count_words (counts ++ (n, name) ∷ []) =
-    sym (words_more counts n name ∙ ap (λ (x : List (List ℕ)). words ++ x) (counted n name some)) in
-    subst (λ (ws : List (List ℕ)). (q ≡ o ++ begun ws) × (codes ", " ≡ lead ws) × (codes "\n" ≡ tail ws)) same (
-      second ∙ ap (λ (x : List ℕ). x ++ name) first ∙ (λ i. (((so.0 i ++ so.1 i) ++ numeral n) ++ codes " ") ++ name)
-          ∙ four o (begun words) (lead words) (numeral n) (codes " ") name ∙ ap (λ (x : List ℕ). o ++ x) (sym (begun_more words w)),
-      lead_more words w,
-      tail_more words w,
-    )
-  where
-    four : (o b l n s name : List ℕ) → (((((o ++ b) ++ l) ++ n) ++ s) ++ name) ≡ o ++ (b ++ (l ++ ((n ++ s) ++ name)))
-    four o b l n s name = simp append_assoc
+some_more counts n name o m p q before end some first second so = grind (arith, words_more, counted, begun_more, lead_more, tail_more, append_assoc)
 
 -- the counts of a list of eight, in the order of the line
 abbrev pub rows_of : List ℕ → List (ℕ × List ℕ)
 rows_of counts = all_counts (λ name. get_or counts (anomaly_number name - 1) 0) (get_or counts 6 0) (get_or counts 7 0)
 
 pub row_at : (counts : List ℕ) (i : ℕ) → i < 8 → get_or (rows_of counts) i (0, []) ≡ (get_or counts i 0, (get_or (rows_of counts) i (0, [])).1)
-row_at counts zero below = refl
-row_at counts (suc zero) below = refl
-row_at counts (suc (suc zero)) below = refl
-row_at counts (suc (suc (suc zero))) below = refl
-row_at counts (suc (suc (suc (suc zero)))) below = refl
-row_at counts (suc (suc (suc (suc (suc zero))))) below = refl
-row_at counts (suc (suc (suc (suc (suc (suc zero)))))) below = refl
-row_at counts (suc (suc (suc (suc (suc (suc (suc zero))))))) below = refl
-row_at counts (suc (suc (suc (suc (suc (suc (suc (suc i)))))))) below = absurd (omega arith)
+row_at counts i below = grind arith
 
 pub rows_more : (counts : List ℕ) (i : ℕ) → i < 8 → take (i + 1) (rows_of counts) ≡ take i (rows_of counts) ++ (get_or counts i 0, (get_or (rows_of counts) i (0, [])).1) ∷ []
 rows_more counts i below = take_more (rows_of counts) i (0, []) below ∙ ap (λ (r : ℕ × List ℕ). take i (rows_of counts) ++ r ∷ []) (row_at counts i below)
@@ -169,9 +133,7 @@ names_at a b c d e f g k = record { ref_ptr = a; now = codes "own write missed" 
 
 pub name_pushed : (a b c d e f g k : ℕ × ℕ) (counts : List ℕ) (i : ℕ) (p q : List ℕ) → q ≡ p ++ (get_or (names_at a b c d e f g k) i (record { ref_ptr = (0, 0); now = [] })).now → i < 8
     → q ≡ p ++ (get_or (rows_of counts) i (0, [])).1
-name_pushed a b c d e f g k counts i p q pushed below =
-    pushed ∙ ap (λ (x : List ℕ). p ++ x)
-    (sym (get_or-map (λ name. name.now) (names_at a b c d e f g k) i (record { ref_ptr = (0, 0); now = [] }) [] below) ∙ get_or-map (λ row. row.1) (rows_of counts) i (0, []) [] below)
+name_pushed a b c d e f g k counts i p q pushed below = grind (arith, get_or-map)
 
 -- one more is counted at the number of a name
 pub placed : (counts more : List ℕ) (k : ℕ) (own : Anomaly) → more ≡ set counts k (get_or counts k 0 + 1) → k ≡ anomaly_number own - 1
@@ -179,12 +141,7 @@ pub placed : (counts more : List ℕ) (k : ℕ) (own : Anomaly) → more ≡ set
 placed counts more k own e is = e ∙ (λ i. set counts (is i) (get_or counts (is i) 0 + 1))
 
 number_small : (name : Anomaly) → (0 < anomaly_number name) × (anomaly_number name < 7)
-number_small OwnWriteMissed = (omega arith, omega arith)
-number_small AbortedRead = (omega arith, omega arith)
-number_small UncommittedRead = (omega arith, omega arith)
-number_small FutureRead = (omega arith, omega arith)
-number_small Phantom = (omega arith, omega arith)
-number_small StaleRead = (omega arith, omega arith)
+number_small name = grind arith
 
 module _ (h : List Event) where
   -- these are counted so far
@@ -194,47 +151,18 @@ module _ (h : List Event) where
 
   -- at a name no more than there are
   pub read_fits : (reads : List BadRead) (i k : ℕ) (counts : List ℕ) (own : Anomaly) → i < length reads → i + 1 < 2 ^ 64 → AreCounted (take i reads) [] counts → k ≡ anomaly_number own - 1 → Fits w64 (get_or counts k 0 + 1)
-  read_fits reads i k counts own inside short so is =
-      let few = at_most_taken (HasName h own) reads i (get_or counts (anomaly_number own - 1) 0) inside (so.1 own) in
-      let same : get_or counts k 0 ≡ get_or counts (anomaly_number own - 1) 0 = ap (λ (j : ℕ). get_or counts j 0) is in
-      omega arith
+  read_fits reads i k counts own inside short so is = grind (arith, at_most_taken)
 
   pub read_counted : IsWellFormed h → (reads : List BadRead) (i : ℕ) (d : BadRead) (counts more : List ℕ) (own : Anomaly) → i < length reads → HasName h own (get_or reads i d)
       → AreCounted (take i reads) [] counts → more ≡ set counts (anomaly_number own - 1) (get_or counts (anomaly_number own - 1) 0 + 1) → AreCounted (take (i + 1) reads) [] more
-  read_counted wf reads i d counts more own inside has so is =
-      let b = get_or reads i d in
-      let k : ℕ = anomaly_number own - 1 in
-      let v : ℕ = get_or counts k 0 + 1 in
-      let small = number_small own in
-      let below : k < length counts = (let e = so.0 in omega arith) in
-      subst (AreCounted (take (i + 1) reads) []) (sym is) (
-        length-set counts k v ∙ so.0,
-        λ name. elim (cases_eq (anomaly_number name) (anomaly_number own)) [
-          | inl same ↦
-              next_has (HasName h name) reads i _ _ d inside (so.1 name) (subst (λ n. HasName h n b) (sym (same_anomaly name own same)) has)
-              (get_or-set_at counts k (anomaly_number name - 1) v 0 (ap (λ (n : ℕ). n - 1) same) below ∙ ap (λ (n : ℕ). get_or counts (n - 1) 0 + 1) (sym same))
-          | inr other ↦
-              next_has_not (HasName h name) reads i _ _ d inside (so.1 name) (λ it. other (ap anomaly_number ((anomaly_law h wf).once b.place b.txn b.key b.saw b.due name own it has)))
-              (get_or-set_other counts k (anomaly_number name - 1) v 0 (let also = number_small name in λ e. other (omega arith)))
-        ],
-        get_or-set_other counts k 6 v 0 (λ e. omega arith) ∙ so.2,
-        get_or-set_other counts k 7 v 0 (λ e. omega arith) ∙ so.3,
-      )
+  read_counted wf reads i d counts more own inside has so is = grind (arith, number_small, length-set, cases_eq, next_has, same_anomaly, get_or-set_at, next_has_not, anomaly_law, get_or-set_other)
 
   module _ (reads : List BadRead) (writes : List BadWrite) (i : ℕ) (d : BadWrite) (counts more : List ℕ) (inside : i < length writes) (so : AreCounted reads (take i writes) counts) where
     still_named : (k v : ℕ) → 5 < k → (name : Anomaly) → SoManyHave (HasName h name) reads (get_or (set counts k v) (anomaly_number name - 1) 0)
-    still_named k v past name =
-        subst (SoManyHave (HasName h name) reads) (sym (get_or-set_other counts k (anomaly_number name - 1) v 0 (let small = number_small name in λ e. omega arith))) (so.1 name)
+    still_named k v past name = grind (arith, get_or-set_other, number_small)
 
     pub lost_counted : IsLost h (get_or writes i d) → more ≡ set counts 6 (get_or counts 6 0 + 1) → AreCounted reads (take (i + 1) writes) more
-    lost_counted has is =
-        let v : ℕ = get_or counts 6 0 + 1 in
-        subst (AreCounted reads (take (i + 1) writes)) (sym is) (
-          length-set counts 6 v ∙ so.0,
-          still_named 6 v (omega arith),
-          next_has (IsLost h) writes i _ _ d inside so.2 has (get_or-set_at counts 6 6 v 0 refl (let e = so.0 in omega arith)),
-          next_has_not (λ b. ¬ IsLost h b) writes i _ _ d inside so.3 (λ not. not has) (get_or-set_other counts 6 7 v 0 (λ e. omega arith)),
-        )
+    lost_counted has is = grind (arith, length-set, still_named, next_has, get_or-set_at, next_has_not, get_or-set_other)
 
     pub conflict_counted : (¬ IsLost h (get_or writes i d)) → more ≡ set counts 7 (get_or counts 7 0 + 1) → AreCounted reads (take (i + 1) writes) more
     conflict_counted not is =

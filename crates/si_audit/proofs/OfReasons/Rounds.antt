@@ -1,5 +1,5 @@
 -- The edges of the steps of a cycle, and whose events are at hand.
-use Rattle.std.proofs.Common.{◌≡◌, ◌<◌, List, map, subst, sym, All, ℕ, zero, suc, ◌+◌, [], ◌∷◌, ◌++◌, length, take, get_or, refl, ap, ap₂, ◌∙◌, arith}
+use Rattle.std.proofs.Common.{◌≡◌, ◌<◌, List, map, subst, sym, All, ℕ, zero, suc, ◌+◌, [], ◌∷◌, ◌++◌, length, take, get_or, refl, ap, arith}
 use Rattle.std.proofs.lemmas.List.{get_or-map, length-map, take_more}
 use Rattle.std.proofs.lemmas.List.Elements.{All-cons, All-nil}
 use Rattle.sia_events.specs.declared.event.Event.{Event}
@@ -25,44 +25,32 @@ all_are_edges IsEdge stuck (s ∷ next ∷ steps) home round =
 
 -- there are as many as steps
 pub as_many : (steps : List Step) (home : ℕ) → length (edges_round steps home) ≡ length steps
-as_many [] home = refl
-as_many (s ∷ []) home = refl
 as_many (s ∷ next ∷ steps) home = ap suc (as_many (next ∷ steps) home)
+as_many steps home = refl
 
 -- those that lead to the next step, and the one that leads home
 pub edge_to_next : (steps : List Step) (home i : ℕ) (d : Edge) (e : Step) → i + 1 < length steps → get_or (edges_round steps home) i d ≡ step_edge (get_or steps i e) (get_or steps (suc i) e).txn
-edge_to_next [] home i d e inside = absurd (omega arith)
-edge_to_next (s ∷ []) home i d e inside = absurd (omega arith)
-edge_to_next (s ∷ next ∷ []) home zero d e inside = refl
-edge_to_next (s ∷ next ∷ third ∷ steps) home zero d e inside = refl
-edge_to_next (s ∷ next ∷ []) home (suc i) d e inside = absurd (omega arith)
+edge_to_next (s ∷ next ∷ steps) home zero d e inside = refl
 edge_to_next (s ∷ next ∷ third ∷ steps) home (suc i) d e inside = edge_to_next (next ∷ third ∷ steps) home i d e (omega arith)
+edge_to_next steps home i d e inside = absurd (omega arith)
 
 pub edge_home : (steps : List Step) (home i : ℕ) (d : Edge) (e : Step) → i + 1 ≡ length steps → get_or (edges_round steps home) i d ≡ step_edge (get_or steps i e) home
-edge_home [] home i d e last = absurd (omega arith)
 edge_home (s ∷ []) home zero d e last = refl
-edge_home (s ∷ []) home (suc i) d e last = absurd (omega arith)
-edge_home (s ∷ next ∷ steps) home zero d e last = absurd (omega arith)
 edge_home (s ∷ next ∷ steps) home (suc i) d e last = edge_home (next ∷ steps) home i d e (omega arith)
+edge_home steps home i d e last = absurd (omega arith)
 
 -- the next edge is pushed behind those before it
 pub edge_pushed : (steps : List Step) (home i : ℕ) (e : Step) (edge : Edge) (front : List Edge) → i < length steps → front ≡ take i (edges_round steps home)
     → get_or (edges_round steps home) i (step_edge e 0) ≡ edge → front ++ edge ∷ [] ≡ take (i + 1) (edges_round steps home)
-edge_pushed steps home i e edge front inside so is =
-    let many = as_many steps home in
-    let below : i < length (edges_round steps home) = omega arith in
-    ap₂ (λ (f : List Edge) (x : Edge). f ++ x ∷ []) so (sym is) ∙ sym (take_more (edges_round steps home) i (step_edge e 0) below)
+edge_pushed steps home i e edge front inside so is = grind (arith, as_many, take_more)
 
 -- it leads to the next step, or home
 pub leads_on : (steps : List Step) (home i next : ℕ) (d : Edge) (e : Step) → i + 1 < length steps → next ≡ i + 1 → get_or (edges_round steps home) i d ≡ step_edge (get_or steps i e) (get_or steps next e).txn
-leads_on steps home i next d e inside is =
-    let on : suc i ≡ next = omega arith in
-    edge_to_next steps home i d e inside ∙ ap (λ n. step_edge (get_or steps i e) (get_or steps n e).txn) on
+leads_on steps home i next d e inside is = grind (arith, edge_to_next)
 
 pub leads_home : (steps rest : List Step) (home : Step) (i next : ℕ) (d : Edge) (e : Step) → steps ≡ home ∷ rest → i + 1 ≡ length steps → next ≡ 0
     → get_or (edges_round steps home.txn) i d ≡ step_edge (get_or steps i e) (get_or steps next e).txn
-leads_home steps rest home i next d e starts last is =
-    edge_home steps home.txn i d e last ∙ ap₂ (λ xs n. step_edge (get_or steps i e) (get_or xs n e).txn) (sym starts) (sym is)
+leads_home steps rest home i next d e starts last is = grind (arith, edge_home)
 
 -- what edges_of makes of the steps of a printed cycle: its edges, and what is told of them is what is told of the cycle
 abbrev pub AreRound : List Step → List Edge → Type 0

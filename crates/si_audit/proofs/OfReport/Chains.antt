@@ -5,7 +5,7 @@ use Rattle.sia_parts.specs.declared.finding.Unexplained.{Unexplained}
 use Rattle.sia_parts.specs.declared.finding.Edge.{Edge}
 use Rattle.sia_graph.specs.declared.pivot.Pivot.{Pivot}
 use Rattle.si_audit.specs.Lines.{is_empty, isolation_line, bad_read_line, bad_write_line, unexplained_line, edge_line, pivot_line, step_words, home_word, cycle_line, events_line, ssi_line, serializable_line, verdict_line, told, report_text}
-use Rattle.std.proofs.Common.{◌&&◌, ◌≡◌, ℕ, ◌+◌, ◌<◌, List, [], ◌∷◌, ◌++◌, length, take, flat_map, get_or, ap, sym, ◌∙◌, append_assoc, append-nil, codes, refl}
+use Rattle.std.proofs.Common.{◌&&◌, ◌≡◌, ℕ, ◌+◌, ◌<◌, List, [], ◌∷◌, ◌++◌, length, take, flat_map, get_or, ap, sym, ◌∙◌, append_assoc, append-nil, codes, refl, arith}
 use Rattle.std.proofs.lemmas.Grind.{flat_map-append}
 use Rattle.std.proofs.lemmas.List.{take_more, flat_map_more}
 use Rattle.sia_graph.specs.declared.judgement.Judgement.{Judgement}
@@ -33,11 +33,7 @@ pub front_alone : (o a b n r w u : List ℕ) (reads : List BadRead) (writes : Li
     → TellsAll (WithReasons bad_read_line (λ x below. below ≡ [])) reads r → TellsAll (WithReasons bad_write_line (λ x below. below ≡ [])) writes w
     → TellsAll (WithReasons unexplained_line (λ x below. below ≡ [])) odd u → n ≡ o ++ a ++ b ++ r ++ w ++ u
     → n ≡ o ++ a ++ b ++ flat_map bad_read_line reads ++ flat_map bad_write_line writes ++ flat_map unexplained_line odd
-front_alone o a b n r w u reads writes odd some others rest all =
-    let first = lines_alone bad_read_line reads r some in
-    let second = lines_alone bad_write_line writes w others in
-    let third = lines_alone unexplained_line odd u rest in
-    all ∙ (λ i. o ++ a ++ b ++ first i ++ second i ++ third i)
+front_alone o a b n r w u reads writes odd some others rest all = grind (arith, lines_alone)
 
 -- no counts
 pub without_counts : (x n c r w u : List ℕ) → c ≡ [] → n ≡ x ++ c ++ r ++ w ++ u → n ≡ x ++ r ++ w ++ u
@@ -50,16 +46,11 @@ pub report_of_pieces : (o m n r a s z v : List ℕ) (reads : List BadRead) (writ
     → r ≡ n ++ flat_map pivot_line pivots ++ s ++ z ++ v
     → r ≡ o ++ (a ++ isolation_line (is_empty reads && is_empty writes) ++ flat_map bad_read_line reads ++ flat_map bad_write_line writes ++ flat_map unexplained_line odd
     ++ flat_map edge_line edges ++ flat_map pivot_line pivots ++ s ++ z ++ v)
-report_of_pieces o m n r a s z v reads writes odd edges pivots front middle back =
-    back ∙ ap (λ (xs : List ℕ). xs ++ flat_map pivot_line pivots ++ s ++ z ++ v) (middle ∙ ap (λ (xs : List ℕ). xs ++ flat_map edge_line edges) front)
-    ∙ report_written o a (isolation_line (is_empty reads && is_empty writes)) (flat_map bad_read_line reads) (flat_map bad_write_line writes) (flat_map unexplained_line odd) (flat_map edge_line edges) (flat_map pivot_line pivots) s z v
+report_of_pieces o m n r a s z v reads writes odd edges pivots front middle back = grind (arith, report_written)
 
 -- the line of the next thing in a list
 pub next_line : {X : Type 0} (f : X → List ℕ) (o m n : List ℕ) (xs : List X) (i : ℕ) (d : X) → i < length xs → n ≡ m ++ f (get_or xs i d) → m ≡ o ++ flat_map f (take i xs) → n ≡ o ++ flat_map f (take (i + 1) xs)
-next_line f o m n xs i d inside step before =
-    then (o ++ flat_map f (take i xs)) m n (f (get_or xs i d)) step before
-    ∙ flat_map_more f o (take i xs) (get_or xs i d)
-    ∙ ap (λ ys. o ++ flat_map f ys) (sym (take_more xs i d inside))
+next_line f o m n xs i d inside step before = grind (arith, then, flat_map_more, take_more)
 
 -- what one more thing brings
 pub one_more_mapped : {X Y : Type 0} (f : X → List Y) (xs : List X) (x : X) → flat_map f (xs ++ x ∷ []) ≡ flat_map f xs ++ f x
@@ -78,9 +69,7 @@ spaced_steps [] = refl
 spaced_steps (s ∷ steps) = spaced-append (step_words s) (flat_map step_words steps) ∙ ap (λ (xs : List ℕ). spaced (step_words s) ++ xs) (spaced_steps steps)
 
 pub cycle_bytes : (steps : List Step) → cycle_line steps ≡ (codes "cycle" ++ flat_map (λ s. spaced (step_words s)) steps ++ spaced (home_word steps)) ++ 10 ∷ []
-cycle_bytes steps =
-    ap (λ (xs : List ℕ). xs ++ 10 ∷ []) (join_spaced (codes "cycle") (flat_map step_words steps ++ home_word steps)
-    ∙ ap (λ (xs : List ℕ). codes "cycle" ++ xs) (spaced-append (flat_map step_words steps) (home_word steps) ∙ ap (λ (xs : List ℕ). xs ++ spaced (home_word steps)) (spaced_steps steps)))
+cycle_bytes steps = grind (arith, join_spaced, spaced-append, spaced_steps)
 
 -- the next words of several
 pub next_words : (ws : List Words) (i : ℕ) (d : Words) (o m n : List ℕ) → i < length ws → n ≡ m ++ spaced (words_of (get_or ws i d)) → m ≡ o ++ spaced (flat_map words_of (take i ws))
@@ -105,9 +94,4 @@ pub report_on_sheets : (j : Judgement) (form : Form) (edges : List Edge) (pivots
     ++ flat_map unexplained_line j.unexplained.items
     → back ≡ ssi_line j.pass ++ serializable_line j.serializable ++ verdict_line j.verdict
     → middle ≡ flat_map edge_line (told form edges) ++ flat_map pivot_line (told form pivots) → front ++ middle ++ back ≡ report_text form (account_with j edges pivots)
-report_on_sheets j form edges pivots front back middle f b m =
-    rw (f, m, b) (parts_of_report (events_line j.counts.events j.counts.committed j.counts.aborted j.counts.unfinished)
-    (isolation_line (is_empty j.bad_reads.items && is_empty j.bad_writes.items))
-    (flat_map bad_read_line j.bad_reads.items) (flat_map bad_write_line j.bad_writes.items) (flat_map unexplained_line j.unexplained.items)
-    (flat_map edge_line (told form edges)) (flat_map pivot_line (told form pivots))
-    (ssi_line j.pass) (serializable_line j.serializable) (verdict_line j.verdict))
+report_on_sheets j form edges pivots front back middle f b m = grind (arith, parts_of_report)

@@ -1,5 +1,5 @@
 -- The lines of all edges are those of each source in turn, and those of a source are what its rows tell.
-use Rattle.std.proofs.Common.{◌≡◌, ℕ, ◌+◌, ◌<◌, ◌≤◌, ◌^◌, List, [], ◌∷◌, ◌++◌, drop, flat_map, get_or, length, map, codes, ap, sym, subst, ◌∙◌, append_assoc, inl, inr, Bool, true, zero, suc, refl, arith}
+use Rattle.std.proofs.Common.{◌≡◌, ℕ, ◌+◌, ◌<◌, ◌≤◌, ◌^◌, List, [], ◌∷◌, ◌++◌, drop, flat_map, get_or, length, map, codes, ap, sym, subst, ◌∙◌, append_assoc, inl, inr, Bool, true, zero, suc, arith, refl}
 use Rattle.std.specs.Prelude.{Contains, slice_index, slice_index_or, ⊤, filter}
 use Rattle.std.proofs.lemmas.Fmt.{length-decimal-le}
 use Rattle.std.proofs.lemmas.List.{at_drop_more, get_or-map, get_or_default}
@@ -16,7 +16,6 @@ use Rattle.sia_index.specs.Info.{AreWrittenKeys}
 use Rattle.sia_index.proofs.Shared.KeyChains.{key_number}
 use Rattle.sia_parts.specs.declared.edges.EdgeTo.{EdgeTo}
 use Rattle.sia_parts.specs.declared.finding.Kind.{Kind}
-use Rattle.sia_parts.specs.declared.finding.Kind.TheVariants.{Ww, Wr, Rw}
 use Rattle.sia_parts.specs.EdgeRows.{AreEdgesFrom, edge_of, IsEdgeBetween, ListsEdgesBetween}
 use Rattle.sia_parts.specs.Entries.{kind_number, edge_rank}
 use Rattle.sia_parts.proofs.Auditing.Committing.{committed_number}
@@ -36,7 +35,7 @@ use Rattle.sia_parts.specs.declared.finding.Edge.{Edge}
 use Rattle.sia_parts.specs.Findings.{ListsEdges}
 use Rattle.sia_parts.proofs.EdgeRows.EdgeLists.{edges_joined, edges_none}
 use Rattle.si_audit.specs.Giving.{IsTextOf}
-use Rattle.si_audit.proofs.OfLaws.VerdictExists.{kind_joins}
+use Rattle.si_audit.proofs.OfLaws.FindingsExist.{kind_joins}
 
 parts_of_line : (a s k b c e : List ℕ) → a ++ (s ++ k) ++ (s ++ b) ++ (s ++ c ++ e) ≡ a ++ (s ++ (k ++ (s ++ (b ++ (s ++ c))))) ++ e
 parts_of_line a s k b c e = simp append_assoc
@@ -80,9 +79,7 @@ text_from h s spelled txns are i inside rows from bytes (edges, between, is) =
 
 -- the word of each kind
 pub kinds_are : {n : ℕ} (a b d : Word n) → text_of a ≡ codes " ww" → text_of b ≡ codes " wr" → text_of d ≡ codes " rw" → (kind : Kind) → word_at (a ∷ b ∷ d ∷ []) (kind_number kind) ≡ codes " " ++ kind_word kind
-kinds_are a b d ww wr rw Ww = ww
-kinds_are a b d ww wr rw Wr = wr
-kinds_are a b d ww wr rw Rw = rw
+kinds_are a b d ww wr rw kind = grind arith
 
 pub line_put : (old piece a b c : List ℕ) → old ++ piece ++ a ++ b ++ c ≡ old ++ (piece ++ (a ++ b ++ c))
 line_put old piece a b c = simp append_assoc

@@ -1,5 +1,5 @@
 -- The words of a pivot's rows, one after another, are its line.
-use Rattle.std.proofs.Common.{◌≡◌, ◌≢◌, ◌==◌, Bool, true, false, cond, not, Option, None, Some, ℕ, suc, ◌+◌, ◌-◌, ◌<◌, ◌≤◌, List, [], ◌∷◌, ◌++◌, codes, drop, flat_map, get_or, length, map, refl, ap, sym, subst, ◌∙◌, arith, append-nil, append_assoc, Contains, slice_index}
+use Rattle.std.proofs.Common.{◌≡◌, ◌≢◌, Bool, true, false, cond, not, Option, None, Some, ℕ, ◌+◌, ◌-◌, ◌<◌, ◌≤◌, List, [], ◌∷◌, ◌++◌, codes, drop, flat_map, get_or, length, map, refl, ap, sym, ◌∙◌, arith, append-nil, append_assoc, Contains, slice_index}
 use Rattle.std.proofs.lemmas.Bool.{eq-eqb, eqb-true}
 use Rattle.std.proofs.lemmas.List.{at_drop_more}
 use Rattle.std.proofs.lemmas.List.Folds.{flat_map-map}
@@ -29,39 +29,27 @@ end_words (n ∷ rows) = []
 -- the words of a line by their numbers
 module _ {n : ℕ} (t : ℕ) (a b d e : Word n) (in_is : text_of a ≡ codes "pivot " ++ numeral t ++ codes " in") (out_is : text_of b ≡ codes " out") (first_is : text_of d ≡ codes " first") (end_is : text_of e ≡ codes "\n") where
   begun : (x : Bool) (role : Role) → word_at (a ∷ b ∷ d ∷ e ∷ []) (cond x (role_number role) 4) ≡ cond x (role_words t role) []
-  begun true In = in_is
-  begun true Out = out_is
-  begun true First = first_is
-  begun false role = refl
+  begun x role = grind arith
 
   pub lead_is : (before : Option Role) (role : Role) → word_at (a ∷ b ∷ d ∷ e ∷ []) (lead_number before role) ≡ lead_words t before role
   lead_is before role = begun (begins before role) role
 
   pub end_at : (rows : List Neighbour) → word_at (a ∷ b ∷ d ∷ e ∷ []) (end_number rows) ≡ end_words rows
-  end_at [] = end_is
-  end_at (n ∷ rows) = refl
+  end_at rows = grind arith
 
 -- the role of the row before the next one
 pub role_next : (rows : List Neighbour) (r : ℕ) (d : Neighbour) → r < length rows → role_before rows (r + 1) ≡ Some (get_or rows r d).role
-role_next rows r d inside =
-    let up : suc r ≡ r + 1 = omega arith in
-    subst (λ n. role_before rows n ≡ Some (get_or rows r d).role) up (map_get (λ (n : Neighbour). n.role) rows r (get_or rows r d) (slice_get-get_or rows r d inside))
+role_next rows r d inside = grind (arith, map_get, slice_get-get_or)
 
 pub role_last : (rows : List Neighbour) (r : ℕ) (d : Neighbour) → 0 < r → r ≤ length rows → role_before rows r ≡ Some (get_or rows (r - 1) d).role
-role_last rows r d some within =
-    let up : r - 1 + 1 ≡ r = omega arith in
-    subst (λ n. role_before rows n ≡ Some (get_or rows (r - 1) d).role) up (role_next rows (r - 1) d (omega arith))
+role_last rows r d some within = grind (arith, role_next)
 
 -- a role begins where the row before has another one
 pub lead_none : (before role : Role) → role_number before ≡ role_number role → 4 ≡ lead_number (Some before) role
 lead_none before role same = sym (ap (λ (x : Bool). cond (not x) (role_number role) 4) (eq-eqb (role_number before) (role_number role) same))
 
 pub lead_other : (before role : Role) → role_number before ≢ role_number role → role_number role ≡ lead_number (Some before) role
-lead_other before role other = by_test (role_number before == role_number role) refl
-  where
-    by_test : (x : Bool) → (role_number before == role_number role) ≡ x → role_number role ≡ cond (not x) (role_number role) 4
-    by_test true e = absurd (other (eqb-true (role_number before) (role_number role) e))
-    by_test false e = refl
+lead_other before role other = grind (arith, eqb-true)
 
 parted_line : (p a b e r : List ℕ) → p ++ (a ++ b ++ (e ++ r)) ≡ (p ++ (a ++ b ++ e)) ++ r
 parted_line p a b e r = simp append_assoc
@@ -69,8 +57,7 @@ parted_line p a b e r = simp append_assoc
 module _ {k : ℕ} (t : ℕ) (words : List (Word k)) where
   -- the end of the line, if no rows are left
   line_behind : (before : Option Role) (rows : List Neighbour) → line_from t words before rows ≡ end_words rows ++ rest_of t words before rows
-  line_behind before [] = sym (append-nil (codes "\n"))
-  line_behind before (n ∷ rows) = refl
+  line_behind before rows = grind (arith, append-nil)
 
   -- one more row is put
   pub pivot_row_put : {n : ℕ} (leads : List (Word n)) → ((before : Option Role) (role : Role) → word_at leads (lead_number before role) ≡ lead_words t before role) → ((rows : List Neighbour) → word_at leads (end_number rows) ≡ end_words rows)
@@ -95,9 +82,7 @@ module _ {k : ℕ} (t : ℕ) (words : List (Word k)) where
 
 -- a role doesn't begin behind itself
 same_role : (role : Role) → begins (Some role) role ≡ false
-same_role In = refl
-same_role Out = refl
-same_role First = refl
+same_role role = grind arith
 
 -- all rows have this role
 abbrev pub HaveRole : Role → List Neighbour → Type 0
@@ -173,8 +158,7 @@ spaced_names : (ts : List ℕ) → spaced (map numeral ts) ≡ flat_map txn_word
 spaced_names ts = flat_map-map (λ (word : List ℕ). 32 ∷ word) numeral ts
 
 spaced_firsts : (firsts : List ℕ) → spaced (first_words firsts) ++ codes "\n" ≡ line_end firsts
-spaced_firsts [] = refl
-spaced_firsts (t ∷ ts) = ap (λ (l : List ℕ). codes " first" ++ l ++ codes "\n") (spaced_names (t ∷ ts))
+spaced_firsts firsts = grind (arith, spaced_names)
 
 words_joined : (p s n i a o b c e : List ℕ) → (p ++ ((s ++ n) ++ (i ++ ((a ++ (o ++ b)) ++ c)))) ++ e ≡ (((p ++ s) ++ n) ++ i) ++ a ++ (o ++ b ++ (c ++ e))
 words_joined p s n i a o b c e = simp append_assoc

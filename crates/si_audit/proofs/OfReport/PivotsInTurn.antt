@@ -36,17 +36,13 @@ role_of (suc zero) = Out
 role_of (suc (suc n)) = First
 
 role_told : (role : Role) → role_of (role_number role) ≡ role
-role_told In = refl
-role_told Out = refl
-role_told First = refl
+role_told role = grind arith
 
 one_role : (a b : Role) → role_number a ≡ role_number b → a ≡ b
 one_role a b e = sym (role_told a) ∙ ap role_of e ∙ role_told b
 
 either_role : (role : Role) → (role ≡ In) ⊎ ((role ≡ Out) ⊎ (role ≡ First))
-either_role In = inl refl
-either_role Out = inr (inl refl)
-either_role First = inr (inr refl)
+either_role role = grind arith
 
 -- both ends of a vulnerable edge committed
 pub ends_committed : (h : List Event) (t u : ℕ) → IsVulnerable h t u → IsCommitted h t × IsCommitted h u
@@ -56,8 +52,7 @@ module _ (h : List Event) (i : ℕ) where
   -- who has a role has a number
   numbered : (role : Role) (j : ℕ) → HasRole h i role j → (u : ℕ) × IsCommittedAt h j u
   numbered In j (s, t, at, here, v) = (s, at)
-  numbered Out j (t, u, here, at, v) = (u, at)
-  numbered First j (t, u, here, at, first) = (u, at)
+  numbered role j w = (w.1, w.3)
 
   module _ (t : ℕ) (here : IsCommittedAt h i t) where
     -- what a transaction is to t

@@ -1,5 +1,5 @@
 -- The text of transactions in turn: that of the next one, and that of the later ones.
-use Rattle.std.proofs.Common.{◌≡◌, inl, inr, ℕ, ◌+◌, ◌-◌, ◌*◌, ◌<◌, ◌≤◌, List, [], ◌∷◌, ◌++◌, drop, length, refl, ap, sym, ◌∙◌, arith, append-nil, append_assoc}
+use Rattle.std.proofs.Common.{◌≡◌, ℕ, ◌+◌, ◌-◌, ◌*◌, ◌<◌, ◌≤◌, List, [], ◌∷◌, ◌++◌, drop, length, refl, ap, ◌∙◌, arith, append-nil, append_assoc}
 use Rattle.std.specs.List.{concat}
 use Rattle.std.proofs.Math.Nat.{mul_comm}
 use Rattle.std.proofs.lemmas.Bool.{cases_lt}
@@ -27,18 +27,15 @@ moved a b c d = simp append_assoc
 -- a piece was put on the sheet
 pub piece_put : (given : ℕ) (bytes piece mine more rest text : List ℕ) → given ≤ length bytes → text ≡ drop given bytes ++ mine ++ rest → mine ≡ piece ++ more
     → text ≡ drop given (bytes ++ piece) ++ more ++ rest
-piece_put given bytes piece mine more rest text within all parted =
-    all ∙ ap (λ (xs : List ℕ). drop given bytes ++ xs ++ rest) parted ∙ moved (drop given bytes) piece more rest ∙ ap (λ (xs : List ℕ). xs ++ more ++ rest) (sym (drop-append-le given bytes piece within))
+piece_put given bytes piece mine more rest text within all parted = grind (arith, moved, drop-append-le)
 
 -- the next one was taken where nothing of the one before was left
 pub next_taken : (front mine own rest later text : List ℕ) → text ≡ front ++ mine ++ rest → mine ≡ [] → rest ≡ own ++ later → text ≡ front ++ own ++ later
-next_taken front mine own rest later text all none next =
-    all ∙ ap (λ (xs : List ℕ). front ++ xs ++ rest) none ∙ ap (λ (xs : List ℕ). xs ++ rest) (append-nil front) ∙ ap (λ (xs : List ℕ). front ++ xs) next ∙ sym (append_assoc front own later)
+next_taken front mine own rest later text all none next = grind (arith, append-nil, append_assoc)
 
 -- so less is left
 pub fewer_taken : (end next most few : ℕ) → next < end → few ≤ most → (end - (next + 1)) * (most + 1) + few < (end - next) * (most + 1)
-fewer_taken end next most few more within =
-    omega (arith, mul-add-lt (end - (next + 1)) (most + 1) few (end - next) (omega arith) (omega arith), mul_comm (end - next) (most + 1))
+fewer_taken end next most few more within = grind (arith, mul-add-lt, mul_comm)
 
 -- a sheet that was given whole
 pub all_given : (s : Sheet) → s.end ≡ s.given → drop s.given (text_on s) ≡ []
@@ -46,9 +43,7 @@ all_given s given = let (low, high) = s.bounds in drop_all s.given (text_on s) (
 
 -- it is empty then
 pub emptied : (s now : Sheet) (mine rest text : List ℕ) → s.end ≡ s.given → now.end ≡ 0 → text ≡ drop s.given (text_on s) ++ mine ++ rest → text ≡ drop now.given (text_on now) ++ mine ++ rest
-emptied s now mine rest text given blank at =
-    let (low, high) = now.bounds in
-    at ∙ ap (λ (xs : List ℕ). xs ++ mine ++ rest) (all_given s given ∙ sym (all_given now (omega arith)))
+emptied s now mine rest text given blank at = grind (arith, all_given)
 
 -- a piece of it was given
 pub piece_given : (s now : Sheet) (piece mine rest text : List ℕ) → drop s.given (text_on s) ≡ piece ++ drop now.given (text_on now) → text ≡ drop s.given (text_on s) ++ mine ++ rest
@@ -61,10 +56,4 @@ fewer_steps less more size bytes fewer within = omega (arith, mul-add-lt less (s
 
 -- some rows or transactions are left
 pub some_left : (end next most long row : ℕ) → ¬ ((long ≤ row) × (end ≤ next)) → 0 < (end - next) * (most + 1) + (long - row)
-some_left end next most long row not_over = elim (cases_lt next end) [
-  | inl more ↦ omega (arith, mul-add-lt 0 (most + 1) 0 (end - next) (omega arith) (omega arith), mul_comm (end - next) (most + 1))
-  | inr past ↦ elim (cases_lt row long) [
-    | inl more ↦ omega arith
-    | inr none ↦ absurd (not_over (none, past))
-  ]
-]
+some_left end next most long row not_over = grind (arith, cases_lt, mul-add-lt, mul_comm)

@@ -1,5 +1,5 @@
 -- Arguments for a rule.
-use Rattle.std.proofs.Common.{◌≡◌, ◌∙◌, ap, false, Option, Some}
+use Rattle.std.proofs.Common.{◌≡◌, false, Some, arith}
 use Rattle.clap.specs.Words.{Rule, rule_of}
 use Rattle.clap.specs.declared.builder.arg.Arg.{Arg}
 use Rattle.clap.specs.declared.builder.value_parser.ValueParser.{ValueParser}
@@ -12,7 +12,4 @@ pub record IsFor (r : Rule) (x : Arg) : Type 0 where
 -- its values are read by the parser
 pub parsed : (r : Rule) (x y : Arg) (p : ValueParser) → IsFor r x → y ≡ record x { value_parser = y.value_parser } → y.value_parser ≡ Some p
     → IsFor (record r { parser = Some p }) y
-parsed r x y p is others given = record {
-  rule = ap rule_of others ∙ (ap (λ (q : Option ValueParser). rule_of (record x { value_parser = q })) given ∙ ap (λ (s : Rule). record s { parser = Some p }) is.rule);
-  local = ap (λ (z : Arg). z.global) others ∙ is.local;
-}
+parsed r x y p is others given = grind arith

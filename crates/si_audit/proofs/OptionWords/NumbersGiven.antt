@@ -37,20 +37,12 @@ place_of id = position_or_len (λ r. bytes_eq r.id id) rules
 
 own_place : (j : ℕ) (r : Rule) → j < 7 → place_of (slice_index_or rules j r).id ≡ j
 unfolding place_of
-own_place zero r lt = refl
-own_place (suc zero) r lt = refl
-own_place (suc (suc zero)) r lt = refl
-own_place (suc (suc (suc zero))) r lt = refl
-own_place (suc (suc (suc (suc zero)))) r lt = refl
-own_place (suc (suc (suc (suc (suc zero))))) r lt = refl
-own_place (suc (suc (suc (suc (suc (suc zero)))))) r lt = refl
 own_place (suc (suc (suc (suc (suc (suc (suc j))))))) r lt = absurd (omega arith)
+own_place j r lt = refl
 
 at_mapped : (xs : List Arg) (j : ℕ) (e : Arg) → slice_index_or (map rule_of xs) j (rule_of e) ≡ rule_of (slice_index_or xs j e)
-at_mapped [] zero e = refl
-at_mapped [] (suc j) e = refl
-at_mapped (x ∷ xs) zero e = refl
 at_mapped (x ∷ xs) (suc j) e = at_mapped xs j e
+at_mapped xs j e = refl
 
 some_arg : (xs : List Arg) → length xs ≡ 7 → Arg
 some_arg [] seven = absurd (omega arith)

@@ -1,5 +1,5 @@
 -- What an account and a judgement say of how a run ends, and that an account can be printed.
-use Rattle.std.proofs.Common.{◌≡◌, ◌≢◌, ℕ, List, [], ◌∷◌, length, map, get_or, subst, arith}
+use Rattle.std.proofs.Common.{◌≡◌, ◌≢◌, ℕ, List, [], length, map, get_or, subst, arith, rules}
 use Rattle.std.specs.Prelude.{⊤, All, Contains}
 use Rattle.std.proofs.lemmas.List.{get_or-map, length-map}
 use Rattle.std.proofs.lemmas.List.Elements.{All-contains_itself}
@@ -10,7 +10,6 @@ use Rattle.sia_parts.specs.Findings.{ListsEdges}
 use Rattle.sia_parts.proofs.Auditing.Members.{contains_none}
 use Rattle.sia_graph.specs.declared.pivot.Pivot.{Pivot}
 use Rattle.sia_graph.specs.declared.judgement.Verdict.{Verdict}
-use Rattle.sia_graph.specs.declared.judgement.Verdict.TheVariants.{Order, Cycle}
 use Rattle.sia_graph.specs.Pivots.{ArePivots}
 use Rattle.sia_graph.specs.Verdicts.{IsVerdict}
 use Rattle.sia_graph.specs.declared.judgement.Judgement.{Judgement}
@@ -19,9 +18,7 @@ use Rattle.sia_graph.specs.Judgements.{IsJudgement}
 use Rattle.si_audit.specs.Report.{HasStep, CanBePrinted}
 
 has_step : (M : ℕ → Type 0) (E : _ → Type 0) (v : Verdict) → IsVerdict M E v → HasStep v
-has_step M E (Order order) is = tt
-has_step M E (Cycle []) is = absurd is.1
-has_step M E (Cycle (s ∷ steps)) is = λ none. cc
+has_step M E v is = grind arith
 
 contains_some : (xs : List ℕ) (x : ℕ) → Contains xs x → xs ≢ []
 contains_some xs x c none = contains_none x (subst (λ ys. Contains ys x) none c)
@@ -40,24 +37,8 @@ has_neighbours h ps pivots k d below =
 
 -- the account of a history can be printed
 pub can_be_printed : (h : List Event) (a : Account) → IsAccount h a → CanBePrinted a
-can_be_printed h a is = record {
-  steps = has_step _ _ a.verdict is.verdict;
-  neighbours = has_neighbours h a.pivots is.pivots;
-}
+can_be_printed h a is = search (rules, has_step, has_neighbours)
 
 -- with the edges and the pivots of the history a judgement of it is its account
 pub account_is : (h : List Event) (j : Judgement) → IsJudgement h j → (edges : List Edge) → ListsEdges h (λ _. ⊤) edges → (pivots : List Pivot) → ArePivots h pivots → IsAccount h (account_with j edges pivots)
-account_is h j is edges edges_are pivots pivots_are = record {
-  events = is.counts.events;
-  committed = is.counts.committed;
-  aborted = is.counts.aborted;
-  unfinished = is.counts.unfinished;
-  bad_reads = is.bad_reads;
-  bad_writes = is.bad_writes;
-  unexplained = is.unexplained;
-  edges = edges_are;
-  pivots = pivots_are;
-  pass = is.pass;
-  serializable = is.serializable;
-  verdict = is.verdict;
-}
+account_is h j is edges edges_are pivots pivots_are = grind arith

@@ -1,5 +1,5 @@
 -- What the bad reads and bad writes, as they are gone over, say of each transaction.
-use Rattle.std.proofs.Common.{◌≡◌, ◌≢◌, ◌⊎◌, inl, inr, ℕ, ◌<◌, ◌≤◌, List, [], ◌∷◌, ◌++◌, Bool, Option, replicate, Some, None, true, false, length, get_or, slice_get, set, take, refl, ap, sym, subst, ◌∙◌, arith}
+use Rattle.std.proofs.Common.{◌≡◌, ◌≢◌, ◌⊎◌, inl, inr, ℕ, ◌<◌, ◌≤◌, List, [], ◌∷◌, ◌++◌, Bool, Option, replicate, Some, None, true, false, length, get_or, slice_get, set, take, refl, ap, sym, subst, ◌∙◌, arith, rules}
 use Rattle.std.specs.Prelude.{◌↔◌, AllPairs, IsTrue, MatchOption, Contains, is_some, not, ⊤}
 use Rattle.std.specs.Bool.{then_some}
 use Rattle.std.specs.Option.{option_or}
@@ -28,10 +28,8 @@ use Rattle.sia_parts.specs.Entries.{bad_read_rank}
 use Rattle.sia_parts.specs.Findings.{ListsBadReads, ListsBadWrites}
 use Rattle.si_audit.specs.Bounds.{EachTxn, IsKnownTo, IsSoFar}
 use Rattle.si_audit.specs.Snapshots.{FitsStart, IsFirst, IsInNone}
-use Rattle.si_audit.specs.declared.snapshots.Bound.{Bound}
 use Rattle.si_audit.specs.declared.snapshots.Bounds.{Bounds}
-use Rattle.si_audit.proofs.Shared.KnownFits.{access_within}
-use Rattle.si_audit.proofs.Shared.SnapshotStarts.{fits_start}
+use Rattle.si_audit.proofs.Shared.SnapshotBounds.{access_within, fits_start}
 
 -- of a transaction nothing is known yet
 abbrev pub unknown : Bounds
@@ -75,25 +73,15 @@ pub record AreTold (h : List Event) (reads : List BadRead) (writes : List BadWri
   pub each : (i t : ℕ) → slice_get (txns_of h) i ≡ Some t → IsTold h reads writes t (get_or all i unknown)
 
 pub told_none : (h : List Event) (t : ℕ) → IsTold h [] [] t unknown
-told_none h t = record {
-  misfit = ((λ e. absurd (true≢false (sym e))), λ has. elim has [ inl r ↦ (let c = r.1.1 in absurd (omega arith)) | inr w ↦ (let c = w.1.1 in absurd (omega arith)) ]);
-  never = λ r c own lost. (let b = c.1 in omega arith);
-  low = refl;
-  high = refl;
-  first = refl;
-}
+told_none h t = grind (arith, true≢false)
 
 -- that a transaction has no commit is told by a look-up
 pub unknown_or_none : (h : List Event) (t : ℕ) (o : Option Lifetime) (none : Bool) → is_some o ≡ not none → MatchOption o (¬ IsCommitted h t) (IsLifetime h t) → IsTrue none ↔ (¬ IsCommitted h t)
-unknown_or_none h t None b is not_there = ((λ e. not_there), (λ n. not-false b (sym is)))
-unknown_or_none h t (Some l) b is there = ((λ e. absurd (true≢false (is ∙ not_from_true b e))), (λ n. absurd (n (l.commit, there.1))))
+unknown_or_none h t o none is not_there = grind (arith, not-false, true≢false, not_from_true)
 
 -- at first
 pub told_first : (h : List Event) (n : ℕ) → n ≡ length (txns_of h) → (all : List Bounds) → all ≡ replicate n unknown → AreTold h [] [] all
-told_first h n long all same = record {
-  long = ap length same ∙ length-replicate n unknown ∙ long;
-  each = λ i t at. subst (IsTold h [] [] t) (sym (ap (λ (l : List Bounds). get_or l i unknown) same ∙ get_or-replicate n i unknown unknown (let below = slice_get_within (txns_of h) i t at in omega arith))) (told_none h t);
-}
+told_first h n long all same = grind (arith, length-replicate, get_or-replicate, slice_get_within, told_none)
 
 -- bad reads before one in the list are of an earlier place or key
 pub earlier_reads : (reads : List BadRead) → AllPairs (λ x y. Precedes (bad_read_rank x) (bad_read_rank y)) reads → (k : ℕ) → k < length reads → (d s : BadRead) → Contains (take k reads) s → (s.place < (get_or reads k d).place) ⊎ ((s.place ≡ (get_or reads k d).place) × (s.key < (get_or reads k d).key))
@@ -190,18 +178,7 @@ module _ (h : List Event) (reads : List BadRead) (writes : List BadWrite) (r : B
 -- as two writes to its row leave it
 pub takes_read : (h : List Event) (r : BadRead) (is : Bool) → (IsTrue is ↔ IsLost h r) → (all : List Bounds) (n : ℕ) → n < length all → (a b d : Bounds) → a ≡ get_or all n a → b ≡ get_or (set all n (record a { misfit = true })) n b → d ≡ get_or (set all n (record a { misfit = true })) n d → (never : Option (ℕ × ℕ)) → never ≡ option_or d.never (then_some is (r.place, r.key))
     → TakesRead h r is (get_or all n unknown) (record b { never = never })
-takes_read h r is told all n inside a b d first second third never same =
-    let old : a ≡ get_or all n unknown = first ∙ get_or_default all n a unknown inside in
-    let now : b ≡ record a { misfit = true } = second ∙ get_or-set_same all n (record a { misfit = true }) b inside in
-    let then : d ≡ record a { misfit = true } = third ∙ get_or-set_same all n (record a { misfit = true }) d inside in
-    record {
-      told = told;
-      misfit = ap (λ (x : Bounds). x.misfit) now;
-      never = same ∙ ap (λ (x : Bounds). option_or x.never (then_some is (r.place, r.key))) then ∙ ap (λ (x : Bounds). option_or x.never (then_some is (r.place, r.key))) old;
-      low = ap (λ (x : Bounds). x.low) now ∙ ap (λ (x : Bounds). x.low) old;
-      high = ap (λ (x : Bounds). x.high) now ∙ ap (λ (x : Bounds). x.high) old;
-      first = ap (λ (x : Bounds). x.first) now ∙ ap (λ (x : Bounds). x.first) old;
-    }
+takes_read h r is told all n inside a b d first second third never same = grind (arith, get_or_default, get_or-set_same)
 
 -- a bad write makes its second a misfit
 module _ (h : List Event) (reads : List BadRead) (writes : List BadWrite) (w : BadWrite) (t : ℕ) (old : Bounds) (told : IsTold h reads writes t old) where
@@ -221,13 +198,7 @@ module _ (h : List Event) (reads : List BadRead) (writes : List BadWrite) (w : B
   }
 
   write_of_own : w.second ≡ t → IsTold h reads (writes ++ w ∷ []) t (record old { misfit = true })
-  write_of_own own = record {
-    misfit = ((λ mis. inr (w, Contains-push writes w, own)), λ has. refl);
-    never = told.never;
-    low = told.low;
-    high = told.high;
-    first = told.first;
-  }
+  write_of_own own = grind (arith, Contains-push)
 
 -- a row is changed, and each other row is of another transaction
 told_more : (h : List Event) (n t : ℕ) → slice_get (txns_of h) n ≡ Some t → (reads more_reads : List BadRead) (writes more_writes : List BadWrite) (all : List Bounds) → AreTold h reads writes all → (new : Bounds)
@@ -248,17 +219,11 @@ told_more h n t at reads more_reads writes more_writes all told new other own = 
 -- the next bad read, and the next bad write
 pub told_read : (h : List Event) (n : ℕ) (reads : List BadRead) (writes : List BadWrite) (all : List Bounds) (r : BadRead) (is : Bool) (new : Bounds) → slice_get (txns_of h) n ≡ Some r.txn
     → ((s : BadRead) → Contains reads s → (s.place < r.place) ⊎ ((s.place ≡ r.place) × (s.key < r.key))) → TakesRead h r is (get_or all n unknown) new → AreTold h reads writes all → AreTold h (reads ++ r ∷ []) writes (set all n new)
-told_read h n reads writes all r is new at behind takes told =
-    told_more h n r.txn at reads (reads ++ r ∷ []) writes writes all told new
-    (λ u b other is. read_of_other h reads writes r u b is other)
-    (λ before. read_of_own h reads writes r r.txn (get_or all n unknown) before refl behind is new takes)
+told_read h n reads writes all r is new at behind takes told = search (rules, told, told_more, read_of_other, read_of_own)
 
 pub told_write : (h : List Event) (n : ℕ) (reads : List BadRead) (writes : List BadWrite) (all : List Bounds) (w : BadWrite) → slice_get (txns_of h) n ≡ Some w.second
     → AreTold h reads writes all → AreTold h reads (writes ++ w ∷ []) (set all n (record (get_or all n unknown) { misfit = true }))
-told_write h n reads writes all w at told =
-    told_more h n w.second at reads reads writes (writes ++ w ∷ []) all told (record (get_or all n unknown) { misfit = true })
-    (λ u b other is. write_of_other h reads writes w u b is other)
-    (λ is. write_of_own h reads writes w w.second (get_or all n unknown) is refl)
+told_write h n reads writes all w at told = search (rules, arith, told_more, write_of_other, write_of_own)
 
 -- all of them tell what there is to know before the first event
 module _ (h : List Event) (wf : IsWellFormed h) (reads : List BadRead) (writes : List BadWrite) (bad_reads : ListsBadReads h (λ _. ⊤) reads) (bad_writes : ListsBadWrites h (λ _. ⊤) writes) (t : ℕ) (has : HasEvent h t) (b : Bounds) (told : IsTold h reads writes t b) where
@@ -322,26 +287,10 @@ module _ (h : List Event) (wf : IsWellFormed h) (reads : List BadRead) (writes :
       )
 
   none_so_far : (q k v : ℕ) → ¬ (IsSoFar h 1 0 q k × SawAt h q t k v)
-  none_so_far q k v (inl before, saw) = let place = (place_within h q saw.0 saw.1).0 in omega arith
-  none_so_far q k v (inr at, saw) = let below : at.1 < 0 = at.3 in omega arith
+  none_so_far q k v p = grind (arith, place_within)
 
   pub known_first : IsKnownTo h t 1 b
-  known_first = record {
-    marked = record { misfit = misfit_is; never = never_is };
-    reads = λ mis. record {
-      low = record {
-        none = λ zero. (ap (λ (x : Bound). x.commit) told.low, λ c q k ask. none_so_far q k ask.1.0 (ask.0, ask.1.1));
-        some = λ some. let zero = ap (λ (x : Bound). x.place) told.low in absurd (omega arith);
-        each = λ c q k ask. absurd (none_so_far q k ask.1.0 (ask.0, ask.1.1));
-      };
-      high = record {
-        none = λ zero. (ap (λ (x : Bound). x.commit) told.high, λ c q k bar. none_so_far q k bar.1.0 (bar.0, bar.1.3));
-        some = λ some. let zero = ap (λ (x : Bound). x.place) told.high in absurd (omega arith);
-        each = λ c q k bar. absurd (none_so_far q k bar.1.0 (bar.0, bar.1.3));
-      };
-    };
-    first = λ mis. inl (told.first, λ q access. (access_within h t q access).0);
-  }
+  known_first = grind (arith, misfit_is, never_is, none_so_far, access_within)
 
 -- so each row is known
 pub known_all : (h : List Event) → IsWellFormed h → (reads : List BadRead) (writes : List BadWrite) → ListsBadReads h (λ _. ⊤) reads → ListsBadWrites h (λ _. ⊤) writes → (all : List Bounds) → AreTold h reads writes all → EachTxn (λ t. IsKnownTo h t 1) h all

@@ -1,5 +1,5 @@
 -- Words that are pushed one after another.
-use Rattle.std.proofs.Common.{◌≡◌, ℕ, List, [], ◌++◌, ap, ◌∙◌, append_assoc, append-nil}
+use Rattle.std.proofs.Common.{◌≡◌, ℕ, List, [], ◌++◌, append_assoc, append-nil, arith}
 use Rattle.sia_events.specs.Text.{numeral}
 
 chained : (o a r b q c k l : List ℕ) → (((((o ++ a ++ r ++ b) ++ [] ++ q ++ c)) ++ k) ++ l) ≡ o ++ (a ++ r ++ b ++ q ++ c ++ k ++ l)
@@ -9,10 +9,7 @@ chained o a r b q c k l = simp (append_assoc, append-nil)
 pub place_pushed : (o first second third all a b c kept token l : List ℕ) (x row y column : ℕ) → x ≡ row → y ≡ column → kept ≡ token
     → first ≡ o ++ a ++ numeral x ++ b → second ≡ first ++ [] ++ numeral y ++ c → third ≡ second ++ kept → all ≡ third ++ l
     → all ≡ o ++ (a ++ numeral row ++ b ++ numeral column ++ c ++ token ++ l)
-place_pushed o first second third all a b c kept token l x row y column same_row same_column same_token one two three four =
-    four ∙ ap (λ (z : List ℕ). z ++ l) (three ∙ ap (λ (z : List ℕ). z ++ kept) (two ∙ ap (λ (z : List ℕ). z ++ [] ++ numeral y ++ c) one))
-    ∙ chained o a (numeral x) b (numeral y) c kept l
-    ∙ (λ i. o ++ (a ++ numeral (same_row i) ++ b ++ numeral (same_column i) ++ c ++ same_token i ++ l))
+place_pushed o first second third all a b c kept token l x row y column same_row same_column same_token one two three four = grind (arith, chained)
 
 -- a name and a start, and what stands behind them
 pub start_pushed : (o p a t x m y s e : List ℕ) → ((((((o ++ (p ++ a ++ t)) ++ x) ++ m) ++ y) ++ s) ++ [] ++ e) ≡ (o ++ p) ++ (a ++ (t ++ x ++ m ++ y) ++ s ++ e)
@@ -33,17 +30,13 @@ named_event o p a b e s t x m y q = simp append_assoc
 pub step_words_behind : (o a s e w t d words z m r y : List ℕ)
     → m ≡ o ++ (a ++ (s ++ (e ++ (w ++ (e ++ ((t ++ d) ++ e)))))) → r ≡ m ++ words → y ≡ r ++ z
     → y ≡ o ++ (a ++ (s ++ e ++ w ++ e ++ t ++ (d ++ e) ++ words) ++ z)
-step_words_behind o a s e w t d words z m r y first second third =
-    third ∙ ap (λ (x : List ℕ). x ++ z) (second ∙ ap (λ (x : List ℕ). x ++ words) first) ∙ simp append_assoc
+step_words_behind o a s e w t d words z m r y first second third = grind (arith, append_assoc)
 
 -- what is told of three lists, behind what was pushed before
 pub findings_pushed : (o a b k l m n r w u : List ℕ) → k ≡ o ++ a ++ b → l ≡ k ++ r → m ≡ l ++ w → n ≡ m ++ u → n ≡ o ++ a ++ b ++ r ++ w ++ u
-findings_pushed o a b k l m n r w u first second third fourth =
-    fourth ∙ ap (λ (x : List ℕ). x ++ u) (third ∙ ap (λ (x : List ℕ). x ++ w) (second ∙ ap (λ (x : List ℕ). x ++ r) first)) ∙ simp append_assoc
+findings_pushed o a b k l m n r w u first second third fourth = grind (arith, append_assoc)
 
 -- all lines of an explained report
 pub explained_pushed : (o a b c r w u t s d z v j k l m n p : List ℕ) → o ≡ [] → j ≡ o ++ a ++ b ++ c ++ r ++ w ++ u → k ≡ j ++ t → l ≡ k ++ s → m ≡ l ++ d → n ≡ m ++ z → p ≡ n ++ v
     → p ≡ a ++ b ++ c ++ r ++ w ++ u ++ t ++ s ++ d ++ z ++ v
-explained_pushed o a b c r w u t s d z v j k l m n p none front first second third fourth fifth =
-    fifth ∙ ap (λ (x : List ℕ). x ++ v) (fourth ∙ ap (λ (x : List ℕ). x ++ z) (third ∙ ap (λ (x : List ℕ). x ++ d) (second ∙ ap (λ (x : List ℕ). x ++ s)
-    (first ∙ ap (λ (x : List ℕ). x ++ t) (front ∙ ap (λ (x : List ℕ). x ++ a ++ b ++ c ++ r ++ w ++ u) none)))))
+explained_pushed o a b c r w u t s d z v j k l m n p none front first second third fourth fifth = grind arith

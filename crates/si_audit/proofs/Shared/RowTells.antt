@@ -1,24 +1,97 @@
--- What the event of a row tells of its transaction's snapshots.
-use Rattle.std.proofs.Common.{◌≡◌, ◌⊎◌, inl, inr, ℕ, zero, suc, ◌+◌, ◌-◌, ◌<◌, ◌≤◌, List, Option, Some, length, refl, ap, sym, subst, arith}
-use Rattle.std.specs.Prelude.{⊤}
-use Rattle.std.proofs.lemmas.Option.{get_or_from_slice_get, slice_get_within}
+-- A range read covers the written keys from one number to before another, and what it listed of them.
+use Rattle.std.proofs.Common.{◌≡◌, inl, inr, ℕ, ◌<◌, ◌≤◌, List, Some, None, true, false, length, map, refl, sym, ◌∙◌, arith, ◌↔◌, All, ◌⊎◌, ◌+◌, ◌-◌, Option, subst}
+use Rattle.std.proofs.lemmas.Bool.{cases_lt, false≢true}
 use Rattle.sia_events.specs.declared.event.Event.{Event}
-use Rattle.sia_events.specs.declared.event.Event.TheVariants.{Begin, Read, Range, Write, Commit, Abort}
-use Rattle.sia_events.specs.declared.log.Row.{Row}
-use Rattle.sia_events.specs.declared.log.Row.TheVariants as rows
-use Rattle.sia_events.specs.Events.{actor, Saw}
-use Rattle.sia_events.specs.Numbering.{Names, IsSeen, IsWithin, event_of, key_at, names_of, range_at, txn_at, version_at, write_at}
+use Rattle.sia_events.specs.declared.event.Event.TheVariants.{Range, Begin, Read, Write, Commit, Abort}
+use Rattle.sia_events.specs.Numbering.{names_of, pair_at, AscendByKey, IsPair, Names, IsSeen, IsWithin, event_of, key_at, range_at, txn_at, version_at, write_at}
 use Rattle.sia_events.specs.Places.{at_place}
 use Rattle.sia_events.specs.Reads.{SawAt}
 use Rattle.sia_events.specs.Refusals.{IsWellFormed}
 use Rattle.sia_events.specs.Transactions.{Wrote}
+use Rattle.sia_events.proofs.OfLaws.SawDecisions.{listed_or_not}
+use Rattle.sia_events.proofs.Writing.Ranges.{bounds_in_order}
+use Rattle.sia_index.specs.Info.{AreWrittenKeys, IsKeyAt}
+use Rattle.sia_index.proofs.Sorting.Points.{PointBelow, PointWithin, point_above, point_below, point_within}
+use Rattle.sia_parts.specs.Seeing.{IsCover}
+use Rattle.sia_parts.proofs.Auditing.Covered.{HasCovered}
+use Rattle.sia_parts.proofs.Auditing.KeyNumbers.{IsEnd, numbers_each}
+use Rattle.sia_parts.proofs.Auditing.Passing.{has_number}
+use Rattle.sia_parts.proofs.Auditing.RangeCovers.{all_from, key_unlisted, pair_inside, pair_saw, sight_inside}
+use Rattle.std.proofs.lemmas.Option.{get_or_from_slice_get, slice_get_within}
+use Rattle.sia_events.specs.declared.log.Row.{Row}
+use Rattle.sia_events.specs.declared.log.Row.TheVariants as rows
+use Rattle.sia_events.specs.Events.{actor, Saw}
 use Rattle.sia_events.proofs.Shared.Starts.{one_event}
-use Rattle.sia_index.specs.Info.{IsKeyAt}
 use Rattle.si_audit.specs.Bounds.{Sees}
 use Rattle.si_audit.specs.Snapshots.{AccessesAt}
 use Rattle.si_audit.specs.declared.snapshots.Bounds.{Bounds}
-use Rattle.si_audit.proofs.Shared.RangeSights.{range_reads}
-use Rattle.si_audit.proofs.Shared.SightsSoFar.{sees_none, sees_place}
+use Rattle.si_audit.proofs.Shared.SoFar.{sees_none, sees_place}
+
+-- what t's range read at place p covers and listed, as the lemmas of a part's keys say it
+abbrev pub Covers : List Event → ℕ → ℕ → List ℕ → ℕ → ℕ → ℕ → ℕ → Type 0
+Covers h t p listed lo hi first end = IsCover h (record { txn = 0; reader = record { txn = t; number = 0; place = p; start = 0; has_written = false }; number = None })
+    (record { pairs = record { ref_ptr = (0, 0); now = listed }; lo = lo; hi = hi; first = first; end = end; own = true })
+
+-- how far it has been gone through
+abbrev pub CoveredTo : List Event → List ℕ → ℕ → ℕ → ℕ → ℕ → ℕ → ℕ → Type 0
+CoveredTo h listed lo hi first end n next = HasCovered h (record { pairs = record { ref_ptr = (0, 0); now = listed }; lo = lo; hi = hi; first = first; end = end; own = true }) n next
+
+-- the written keys that t's range read at place p covers have numbers from first to before end, and so have those that it sees
+pub record IsRangeSeen (h : List Event) (t p : ℕ) (listed : List ℕ) (lo hi first end : ℕ) : Type 0 where
+  pub covers : Covers h t p listed lo hi first end
+  pub inside : (k v u : ℕ) → SawAt h p t k v → Wrote h u k → (i : ℕ) × IsKeyAt h i k × (first ≤ i) × (i < end)
+  pub forward : first ≤ end
+
+module _ (h : List Event) (wf : IsWellFormed h) (keys : List ℕ) (are : AreWrittenKeys h keys) (p t lo hi : ℕ) (listed : List ℕ) (r : ℕ × ℕ × List (ℕ × ℕ)) (lo_is : lo ≡ r.0) (hi_is : hi ≡ r.1) (pairs : map (pair_at (names_of h)) listed ≡ r.2) (event : at_place h p ≡ Some (Range t r.0 r.1 r.2)) where
+  at : at_place h p ≡ Some (Range t lo hi (map (pair_at (names_of h)) listed))
+  at = event ∙ (λ i. Some (Range t (sym lo_is i) (sym hi_is i) (sym pairs i)))
+
+  pub range_seen : (first end : ℕ) → first ≤ length keys → PointBelow (λ (k : ℕ). k) keys lo first → end ≤ length keys → PointWithin (λ (k : ℕ). k) keys hi end → All (IsPair (names_of h)) listed → AscendByKey h listed → IsRangeSeen h t p listed lo hi first end
+  range_seen first end below low bound point numbers ascend = record {
+    covers = record {
+      each = each;
+      numbers = numbers;
+      ascend = ascend;
+      inside = all_from (λ q. (lo ≤ (pair_at (names_of h) q).0) × ((pair_at (names_of h) q).0 ≤ hi)) listed (pair_inside h wf p t lo hi listed at);
+      listed = all_from (λ q. SawAt h p t (pair_at (names_of h) q).0 (pair_at (names_of h) q).1) listed (pair_saw h wf p t lo hi listed at);
+      unlisted = key_unlisted h wf p t lo hi listed at lo hi (omega arith) (omega arith) listed (λ q. ((λ c. (let w = pair_inside h wf p t lo hi listed at q c in (c, w.0, w.1))), (λ w. w.0)));
+      own = λ none. absurd (false≢true (sym none));
+    };
+    inside = λ k v u saw wrote.
+        let i = has_number h keys are k u wrote in
+        let covered = sight_inside h wf p t lo hi listed at (record { place = p; txn = t; key = k; saw = v }) refl saw in
+        let w = (each i.0).1 (k, i.1, covered.0, covered.1) in
+        (i.0, i.1, w.0, w.1);
+    forward = elim (cases_lt end first) [
+      | inl less ↦
+          let up = bounds_in_order h wf p t lo hi (map (pair_at (names_of h)) listed) at in
+          let under = point_below (λ (k : ℕ). k) keys lo first low end 0 (omega arith) less in
+          let over = high.behind end (omega arith) (omega arith) in
+          absurd (omega arith)
+      | inr le ↦ le
+    ];
+  }
+    where
+      high : IsEnd keys hi end
+      high = record {
+        bound = bound;
+        within = λ k less. point_within (λ (k : ℕ). k) keys hi end point k 0 (omega arith) less;
+        behind = λ k after inside. point_above (λ (k : ℕ). k) keys hi end point k 0 after inside;
+      }
+
+      each : (j : ℕ) → ((first ≤ j) × (j < end)) ↔ ((k : ℕ) × IsKeyAt h j k × (lo ≤ k) × (k ≤ hi))
+      each = numbers_each h keys are lo hi first end low high
+
+-- it reads some key
+pub range_reads : (h : List Event) → IsWellFormed h → (p t lo hi : ℕ) (listed : List (ℕ × ℕ)) → at_place h p ≡ Some (Range t lo hi listed) → (v : ℕ) × SawAt h p t lo v
+range_reads h wf p t lo hi listed at =
+    let up = bounds_in_order h wf p t lo hi listed at in
+    elim (listed_or_not listed lo) [
+      | inl here ↦ (here.0, (Range t lo hi listed, at, refl, (omega arith, up, inl here.1)))
+      | inr none ↦ (0, (Range t lo hi listed, at, refl, (omega arith, up, inr (none, refl))))
+    ]
+
+-- ---- What the event of a row tells of its transaction's snapshots.
 
 -- t reads or writes at place p, and the new bounds have what it sees there
 abbrev pub Tells : List Event → ℕ → ℕ → Bounds → Bounds → Type 0
@@ -31,46 +104,16 @@ abbrev pub IsIdleRow : Row → Type 0
 IsIdleRow row = ((d : ℕ) × (start : Option ℕ) × (row ≡ rows.Begin d start)) ⊎ ((d : ℕ) × (row ≡ rows.Commit d)) ⊎ ((d : ℕ) × (row ≡ rows.Abort d))
 
 seen_write : (names : Names) (k v w : ℕ) → IsSeen names k v w → (w ≤ length names.writes) × (0 < w → (write_at names (w - 1)).0 ≡ k)
-seen_write names k v zero seen = (omega arith, λ some. absurd (omega arith))
-seen_write names k v (suc w) seen =
-    let below = slice_get_within names.writes w (k, v) seen in
-    let at : write_at names w ≡ (k, v) = get_or_from_slice_get names.writes w (k, v) (0, 0) seen in
-    let back : w ≡ suc w - 1 = omega arith in
-    (omega arith, λ some. subst (λ m. (write_at names m).0 ≡ k) back (ap (λ (q : ℕ × ℕ). q.0) at))
+seen_write names k v w seen = grind (arith, slice_get_within, get_or_from_slice_get)
 
 -- a read's write is of its key
 pub read_write : (names : Names) (row : Row) (key saw : ℕ) → IsReadRow row key saw → IsWithin names row → (saw ≤ length names.writes) × (0 < saw → (write_at names (saw - 1)).0 ≡ key_at names key)
-read_write names row key saw (inl d) within = (let w = subst (IsWithin names) d.1 within in seen_write names (key_at names key) (version_at names saw) saw w.2)
-read_write names row key saw (inr d) within = (let w = subst (IsWithin names) d.1 within in seen_write names (key_at names key) (version_at names saw) saw w.2)
-
-abbrev Acts : Event → Type 0
-Acts (Begin t start) = ⊥
-Acts (Read t k v) = ⊤
-Acts (Range t lo hi listed) = ⊤
-Acts (Write t k) = ⊤
-Acts (Commit t) = ⊥
-Acts (Abort t) = ⊥
-
-saw_acts : (e : Event) (k v : ℕ) → Saw e k v → Acts e
-saw_acts (Begin t start) k v s = s
-saw_acts (Read t key saw) k v s = tt
-saw_acts (Range t lo hi listed) k v s = tt
-saw_acts (Write t key) k v s = tt
-saw_acts (Commit t) k v s = s
-saw_acts (Abort t) k v s = s
+read_write names row key saw p within = grind (arith, seen_write)
 
 module _ (h : List Event) (t p : ℕ) where
-  access_acts : (e : Event) → at_place h p ≡ Some e → AccessesAt h t p → Acts e
-  access_acts e at a = elim a.1 [
-    | inl wrote ↦ subst Acts (one_event h p p (Write t a.0) e refl wrote at) tt
-    | inr saw ↦ subst Acts (one_event h p p saw.1.0 e refl saw.1.1 at) (saw_acts saw.1.0 a.0 saw.0 saw.1.3)
-  ]
-
   module _ (row : Row) (event : at_place h p ≡ Some (event_of (names_of h) row)) where
     pub idle_tells : IsIdleRow row → ¬ AccessesAt h t p
-    idle_tells (inl b) a = subst (λ r. Acts (event_of (names_of h) r)) b.2 (access_acts _ event a)
-    idle_tells (inr (inl c)) a = subst (λ r. Acts (event_of (names_of h) r)) c.1 (access_acts _ event a)
-    idle_tells (inr (inr c)) a = subst (λ r. Acts (event_of (names_of h) r)) c.1 (access_acts _ event a)
+    idle_tells p a = grind arith
 
     module _ (wf : IsWellFormed h) (who : actor (event_of (names_of h) row) ≡ t) (old new : Bounds) where
       pub range_tells : (d r w : ℕ) → row ≡ rows.Range d r w → Sees h t p 0 (p + 1) 0 old new → Tells h t p old new
@@ -90,11 +133,7 @@ module _ (h : List Event) (t p : ℕ) where
 
       module _ (key saw : ℕ) (is : IsReadRow row key saw) where
         read_is : at_place h p ≡ Some (Read t (key_at (names_of h) key) (version_at (names_of h) saw))
-        read_is = by_row is
-          where
-            by_row : IsReadRow row key saw → at_place h p ≡ Some (Read t (key_at (names_of h) key) (version_at (names_of h) saw))
-            by_row (inl d) = subst (λ u. at_place h p ≡ Some (Read u (key_at (names_of h) key) (version_at (names_of h) saw))) (subst (λ x. actor (event_of (names_of h) x) ≡ t) d.1 who) (subst (λ x. at_place h p ≡ Some (event_of (names_of h) x)) d.1 event)
-            by_row (inr d) = subst (λ u. at_place h p ≡ Some (Read u (key_at (names_of h) key) (version_at (names_of h) saw))) (subst (λ x. actor (event_of (names_of h) x) ≡ t) d.1 who) (subst (λ x. at_place h p ≡ Some (event_of (names_of h) x)) d.1 event)
+        read_is = grind arith
 
         read_saw : SawAt h p t (key_at (names_of h) key) (version_at (names_of h) saw)
         read_saw = (_, read_is, refl, (refl, refl))

@@ -24,19 +24,12 @@ use Rattle.sia_events.proofs.Shared.Starts.{one_start}
 use Rattle.sia_events.proofs.Shared.TransactionDecisions.{at_or_not, has_event_or_not, has_start, place_within}
 use Rattle.sia_events.proofs.Writing.WellFormed.{few_events}
 use Rattle.sia_graph.proofs.Shared.Deciding.{either_decided, le_decided, not_decided, three_decided}
-use Rattle.si_audit.proofs.OfLaws.FindingsExist.{seen_small, top, top_is, undue_or_not, wrote_small}
-use Rattle.si_audit.proofs.OfLaws.VerdictExists.{txns_listed}
+use Rattle.si_audit.proofs.OfLaws.FindingsExist.{seen_small, top, top_is, undue_or_not, wrote_small, txns_listed}
 use Rattle.si_audit.proofs.Shared.SnapshotBounds.{access_within, fits_bounds, idle_fits}
 
 -- the first place and key of what has P are one
 one_first : (P : ℕ → ℕ → Type 0) (p k q j : ℕ) → IsFirst P p k → IsFirst P q j → (p ≡ q) × (k ≡ j)
-one_first P p k q j x y = by_order (x.1 q j y.0) (y.1 p k x.0)
-  where
-    by_order : (p < q) ⊎ ((p ≡ q) × (k ≤ j)) → (q < p) ⊎ ((q ≡ p) × (j ≤ k)) → (p ≡ q) × (k ≡ j)
-    by_order (inl a) (inl b) = absurd (omega arith)
-    by_order (inl a) (inr b) = let e = b.0 in absurd (omega arith)
-    by_order (inr a) (inl b) = let e = a.0 in absurd (omega arith)
-    by_order (inr a) (inr b) = let up = a.1 in let down = b.1 in (a.0, omega arith)
+one_first P p k q j x y = grind arith
 
 module _ (h : List Event) (t : ℕ) where
   abbrev AsksFirst : ℕ → ℕ → ℕ → Type 0
@@ -164,9 +157,7 @@ module _ (h : List Event) (wf : IsWellFormed h) (t : ℕ) where
   first_access = least_or_none (AccessesAt h t) access_or_not (λ p x. elim x.1 [ inl writes ↦ (write_small p x.0 writes).0 | inr saw ↦ (saw_small p x.0 saw.0 saw.1).0 ])
 
   in_none_or_not : (p k : ℕ) → Decided (IsInNone h t p k)
-  in_none_or_not p k =
-      decided_alike ((v : ℕ) × (SawAt h p t k v × ((WroteBefore h t k p × (v ≢ t)) ⊎ ((v ≢ 0) × (v ≢ t) × ¬ IsCommitted h v)))) (IsInNone h t p k) (λ x. (x.0, x.1.0, x.1.1)) (λ x. (x.0, (x.1, x.2)))
-      (saw_one_or_none p k (λ v. (WroteBefore h t k p × (v ≢ t)) ⊎ ((v ≢ 0) × (v ≢ t) × ¬ IsCommitted h v)) (undue_or_not h wf p t k))
+  in_none_or_not p k = grind (arith, saw_one_or_none p k (λ v. (WroteBefore h t k p × (v ≢ t)) ⊎ ((v ≢ 0) × (v ≢ t) × ¬ IsCommitted h v)) (undue_or_not h wf p t k))
 
   first_in_none : ((p : ℕ) × (k : ℕ) × IsFirst (IsInNone h t) p k) ⊎ ((p k : ℕ) → ¬ IsInNone h t p k)
   first_in_none = first_or_none (IsInNone h t) in_none_or_not (λ p k x. let small = saw_small p k x.0 x.1 in (small.0, small.1))
@@ -205,8 +196,7 @@ module _ (h : List Event) (wf : IsWellFormed h) (t : ℕ) where
     ]
 
     as_of_small : (v b : ℕ) → IsAsOf h v b → b < top
-    as_of_small v b (inl zero) = let e = zero.1 in let is = top_is in omega arith
-    as_of_small v b (inr at) = place_small b (Commit v) at
+    as_of_small v b p = grind (arith, top_is, place_small)
 
     seen_before : (v : ℕ) → Decided ((b : ℕ) × (IsAsOf h v b × (b < c)))
     seen_before v =

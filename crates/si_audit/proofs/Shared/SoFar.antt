@@ -1,13 +1,12 @@
 -- What reads of more keys do to the bounds that the reads before them gave.
-use Rattle.std.proofs.Common.{◌≡◌, ◌≢◌, ◌⊎◌, inl, inr, ℕ, ◌+◌, ◌<◌, ◌≤◌, List, refl, sym, subst, ◌∙◌, arith, slice_index}
+use Rattle.std.proofs.Common.{◌≡◌, ◌≢◌, ◌⊎◌, inl, inr, ℕ, ◌+◌, ◌<◌, ◌≤◌, List, refl, sym, subst, ◌∙◌, arith, slice_index, ◌↔◌, suc, ◌-◌, length, Option, Some, None, ap, MatchOption}
 use Rattle.std.proofs.lemmas.Bool.{cases_lt}
 use Rattle.sia_events.specs.declared.event.Event.{Event}
-use Rattle.sia_events.specs.declared.event.Event.TheVariants.{Commit}
-use Rattle.sia_events.specs.Events.{Saw}
+use Rattle.sia_events.specs.declared.event.Event.TheVariants.{Commit, Write}
 use Rattle.sia_events.specs.NarrowDependencies.{CommitsVersion, IsAsOf, IsNextVersion}
 use Rattle.sia_events.specs.Reads.{SawAt}
 use Rattle.sia_events.specs.Refusals.{IsWellFormed}
-use Rattle.sia_events.specs.Transactions.{Wrote}
+use Rattle.sia_events.specs.Transactions.{Wrote, CommitsAt, IsCommitted}
 use Rattle.sia_events.proofs.Shared.Starts.{one_event}
 use Rattle.sia_events.proofs.Shared.TransactionDecisions.{place_within}
 use Rattle.sia_events.proofs.Writing.Ranges.{one_version}
@@ -19,36 +18,28 @@ use Rattle.sia_index.proofs.Shared.KeyChains.{key_number}
 use Rattle.sia_index.proofs.Shared.Ordered.{ascends}
 use Rattle.sia_parts.proofs.Auditing.AsOf.{commit_positive, one_as_of}
 use Rattle.sia_parts.proofs.Shared.BadWrites.{made_version}
-use Rattle.sia_parts.proofs.Shared.OneNumber.{one_key}
-use Rattle.si_audit.specs.Bounds.{IsBound, IsSoFar, Sees}
+use Rattle.sia_parts.proofs.Shared.OneNumber.{one_key, one_key_number}
+use Rattle.si_audit.specs.Bounds.{IsBound, IsSoFar, Sees, AreSoFar}
 use Rattle.si_audit.specs.Snapshots.{Bars, ReadAsks}
 use Rattle.si_audit.specs.declared.snapshots.Bound.{Bound}
 use Rattle.si_audit.specs.declared.snapshots.Bounds.{Bounds}
+use Rattle.sia_events.proofs.OfLaws.Seen.{actor_is_txn, saw_written}
+use Rattle.sia_events.specs.Numbering.{names_of, version_at, write_at, writes_of}
+use Rattle.sia_parts.proofs.Auditing.LogWrites.{write_wrote}
+use Rattle.sia_parts.proofs.Auditing.Positions.{at_as_of}
 
 module _ (Reaches : ℕ → ℕ → Type 0) (unbound : ℕ) (P Q : ℕ → ℕ → ℕ → Type 0) where
   -- what has Q and not P stands behind all that has P, and none of it is beyond the bound
   kept : (b : Bound) → ((c p k : ℕ) → P c p k → Q c p k)
       → ((c p k : ℕ) → Q c p k → P c p k ⊎ (Reaches b.commit c × ¬ Reaches unbound c × ((d q j : ℕ) → P d q j → (q < p) ⊎ ((q ≡ p) × (j ≤ k)))))
       → IsBound Reaches unbound P b → IsBound Reaches unbound Q b
-  kept b more either is = record {
-    none = λ zero.
-        let n = is.none zero in
-        (n.0, λ c p k q. elim (either c p k q) [ inl old ↦ n.1 c p k old | inr new ↦ new.1 (subst (λ d. Reaches d c) n.0 new.0) ]);
-    some = λ positive.
-        let first = is.some positive in
-        (more b.commit b.place b.key first.0, λ q j x. elim (either b.commit q j x) [ inl old ↦ first.1 q j old | inr new ↦ new.2 b.commit b.place b.key first.0 ]);
-    each = λ c p k q. elim (either c p k q) [ inl old ↦ is.each c p k old | inr new ↦ new.0 ];
-  }
+  kept b more either is = grind arith
 
   -- of what has Q, one is beyond all else
   taken : (b : Bound) → 0 < b.place → Q b.commit b.place b.key
       → ((c p k : ℕ) → Q c p k → Reaches b.commit c × (c ≡ b.commit → (b.place ≡ p) × (b.key ≡ k)))
       → IsBound Reaches unbound Q b
-  taken b positive here each = record {
-    none = λ zero. absurd (omega arith);
-    some = λ some. (here, λ q j x. let same = (each b.commit q j x).1 refl in inr (same.0, (let e = same.1 in omega arith)));
-    each = λ c p k q. (each c p k q).0;
-  }
+  taken b positive here each = grind arith
 
 module _ (h : List Event) (p : ℕ) where
   key_less : (i j x y : ℕ) → IsKeyAt h i x → IsKeyAt h j y → i < j → x < y
@@ -64,8 +55,7 @@ module _ (h : List Event) (p : ℕ) where
   behind m q r i j k here most (inr same) at = inr (same.0 ∙ sym here, (let less = key_less same.1 i j k same.2 at (let below = same.3 in omega arith) in omega arith))
 
   so_far_more : (m n q k : ℕ) → m ≤ n → IsSoFar h p m q k → IsSoFar h p n q k
-  so_far_more m n q k le (inl less) = inl less
-  so_far_more m n q k le (inr same) = inr (same.0, same.1, same.2, (let below = same.3 in omega arith))
+  so_far_more m n q k le p = grind arith
 
   so_far_or : (m n q k : ℕ) → IsSoFar h p n q k → IsSoFar h p m q k ⊎ ((q ≡ p) × (i : ℕ) × IsKeyAt h i k × (m ≤ i) × (i < n))
   so_far_or m n q k (inl less) = inl (inl less)
@@ -130,15 +120,10 @@ IsHighAfter h p version key old new = ((new ≡ old) × NoneBehind h version.key
 
 module _ (h : List Event) (wf : IsWellFormed h) (t p : ℕ) where
   pub one_saw : (k v w : ℕ) → SawAt h p t k v → SawAt h p t k w → v ≡ w
-  one_saw k v w saw also =
-      let event = one_event h p p saw.0 also.0 refl saw.1 also.1 in
-      one_version h wf p k v w saw.0 saw.1 saw.3 (subst (λ e. Saw e k w) (sym event) also.3)
+  one_saw k v w saw also = grind (arith, one_event, one_version)
 
   few_commits : (k u c : ℕ) → CommitsVersion h k u c → c ≤ 500000000
-  few_commits k u c made =
-      let within = (place_within h c (Commit u) made.1).1 in
-      let few = few_events h wf in
-      omega arith
+  few_commits k u c made = grind (arith, place_within, few_events)
 
   abbrev LowSo : ℕ → Bound → Type 0
   LowSo m b = IsBound (λ c d. d ≤ c) 0 (λ c q k. IsSoFar h p m q k × ReadAsks h t c q k) b
@@ -202,8 +187,7 @@ module _ (h : List Event) (wf : IsWellFormed h) (t p : ℕ) where
         (same, one_as_of h wf v c commit (subst (λ x. IsAsOf h x c) version is) as_of)
 
     asked : 0 < commit → IsAsOf h v commit → ReadAsks h t commit p key
-    asked positive (inl zero) = absurd (let none = zero.1 in omega arith)
-    asked positive (inr commits) = (v, saw, other, commits)
+    asked positive p = grind arith
 
     abbrev here : ℕ → Bound
     here c = record { commit = c; place = p; key = key }
@@ -239,10 +223,7 @@ module _ (h : List Event) (wf : IsWellFormed h) (t p : ℕ) where
         is
 
     sees_low : (old mid : Bounds) → IsLowAfter p commit key old mid → (high : Bound) → (HighSo m mid.high → HighSo (m + 1) high) → Sees h t p m p (m + 1) old (record mid { high = high })
-    sees_low old mid (inl taken_it) high = subst (λ (b : Bounds). (HighSo m b.high → HighSo (m + 1) high) → Sees h t p m p (m + 1) old (record b { high = high })) (sym taken_it.1)
-        (λ more. record { misfit = refl; never = refl; first = refl; bounds = λ so. record { low = low_taken old.low taken_it.0 so.low; high = more so.high } })
-    sees_low old mid (inr left) high = subst (λ (b : Bounds). (HighSo m b.high → HighSo (m + 1) high) → Sees h t p m p (m + 1) old (record b { high = high })) (sym left.1)
-        (λ more. record { misfit = refl; never = refl; first = refl; bounds = λ so. record { low = low_left old.low left.0 so.low; high = more so.high } })
+    sees_low old mid p high = grind (arith, low_taken, low_left)
 
   pub sees_version : (m key v commit : ℕ) (version : KeyVersion) → version.key ≡ key → commit ≡ version.commit → IsKeyAt h m key → IsAsOf h v version.commit → v ≢ t → SawAt h p t key v
       → (old mid new : Bounds) → IsLowAfter p commit key old mid → IsHighAfter h p version key mid new → Sees h t p m p (m + 1) old new
@@ -262,3 +243,143 @@ module _ (h : List Event) (wf : IsWellFormed h) (t p : ℕ) where
         | inr most ↦ subst (Sees h t p m p (m + 1) old) (sym most.1) (sees_low m key v commit at now other saw old mid low mid.high
             (high_left m key v commit at now other saw mid.high (λ u e made late. let least = there.2 u e made late in let under = most.0 in omega arith)))
       ]
+
+-- ---- What is known of a transaction's snapshots goes on from one number of a key to another, and stays where it sees no written key.
+
+pub bound_alike : (Reaches : ℕ → ℕ → Type 0) (unbound : ℕ) (P Q : ℕ → ℕ → ℕ → Type 0) → ((c p k : ℕ) → P c p k → Q c p k) → ((c p k : ℕ) → Q c p k → P c p k) → (b : Bound) → IsBound Reaches unbound P b → IsBound Reaches unbound Q b
+bound_alike Reaches unbound P Q to from b is = grind arith
+
+module _ (h : List Event) (wf : IsWellFormed h) (t : ℕ) where
+  -- what asks for a commit or bars one saw a written key
+  read_wrote : (c p k : ℕ) → ReadAsks h t c p k → (v u : ℕ) × SawAt h p t k v × Wrote h u k
+  read_wrote c p k r =
+      let is = (actor_is_txn h wf r.0 c (Commit r.0, r.3, refl)).0 in
+      let before = saw_written h wf p t k r.0 r.1 (λ zero. absurd (omega arith)) in
+      (r.0, r.0, r.1, (before.0, before.2))
+
+  pub far_alike : (p m q n : ℕ) → ((r k v u : ℕ) → SawAt h r t k v → Wrote h u k → IsSoFar h p m r k ↔ IsSoFar h q n r k) → (b : Bounds) → AreSoFar h t p m b → AreSoFar h t q n b
+  far_alike p m q n alike b are = record {
+    low = bound_alike (λ c d. d ≤ c) 0 (λ c r k. IsSoFar h p m r k × ReadAsks h t c r k) (λ c r k. IsSoFar h q n r k × ReadAsks h t c r k)
+        (λ c r k w. (let s = read_wrote c r k w.1 in ((alike r k s.0 s.1 s.2 s.3).0 w.0, w.1)))
+        (λ c r k w. (let s = read_wrote c r k w.1 in ((alike r k s.0 s.1 s.2 s.3).1 w.0, w.1)))
+        b.low are.low;
+    high = bound_alike (λ c d. c ≤ d) 4294967295 (λ c r k. IsSoFar h p m r k × Bars h t c r k) (λ c r k. IsSoFar h q n r k × Bars h t c r k)
+        (λ c r k w. (let s = w.1 in ((alike r k s.0 s.2 s.3 s.6.0).0 w.0, s)))
+        (λ c r k w. (let s = w.1 in ((alike r k s.0 s.2 s.3 s.6.0).1 w.0, s)))
+        b.high are.high;
+  }
+
+  pub sees_then : (p m q n r o : ℕ) (old mid new : Bounds) → Sees h t p m q n old mid → Sees h t q n r o mid new → Sees h t p m r o old new
+  sees_then p m q n r o old mid new a b = grind arith
+
+  sees_alike : (p m q n : ℕ) → ((r k v u : ℕ) → SawAt h r t k v → Wrote h u k → IsSoFar h p m r k ↔ IsSoFar h q n r k) → (b : Bounds) → Sees h t p m q n b b
+  sees_alike p m q n alike b = record { misfit = refl; never = refl; first = refl; bounds = far_alike p m q n alike b }
+
+  -- at place p no written key is seen
+  pub sees_none : (p : ℕ) → ((k v u : ℕ) → SawAt h p t k v → ¬ Wrote h u k) → (b : Bounds) → Sees h t p 0 (p + 1) 0 b b
+  sees_none p none b = sees_alike p 0 (p + 1) 0 (λ r k v u saw wrote. (
+    (λ w. elim w [ inl less ↦ inl (omega arith) | inr here ↦ absurd (let low = here.3 in omega arith) ]),
+    (λ w. elim w [
+      | inl less ↦ elim (cases_lt r p) [ inl before ↦ inl before | inr after ↦ absurd (none k v u (subst (λ x. SawAt h x t k v) (omega arith) saw) wrote) ]
+      | inr here ↦ absurd (let low = here.3 in omega arith)
+    ]),
+  )) b
+
+  -- the written keys that are seen at place p have numbers from first to before end
+  pub sees_place : (p first end : ℕ) → ((k v u : ℕ) → SawAt h p t k v → Wrote h u k → (i : ℕ) × IsKeyAt h i k × (first ≤ i) × (i < end)) → (old new : Bounds) → Sees h t p first p end old new → Sees h t p 0 (p + 1) 0 old new
+  sees_place p first end inside old new sees = sees_then p 0 p first (p + 1) 0 old old new (sees_alike p 0 p first before old) (sees_then p first p end (p + 1) 0 old new new sees (sees_alike p end (p + 1) 0 behind new))
+    where
+      before : (r k v u : ℕ) → SawAt h r t k v → Wrote h u k → IsSoFar h p 0 r k ↔ IsSoFar h p first r k
+      before r k v u saw wrote = (
+        (λ w. elim w [ inl less ↦ inl less | inr here ↦ absurd (let low = here.3 in omega arith) ]),
+        (λ w. elim w [
+          | inl less ↦ inl less
+          | inr here ↦ absurd
+              (let i = inside k v u (subst (λ x. SawAt h x t k v) here.0 saw) wrote in
+              let same = one_key_number h i.0 here.1 k i.1 here.2 in
+              let from = i.2 in
+              let under = here.3 in
+              omega arith)
+        ]),
+      )
+
+      behind : (r k v u : ℕ) → SawAt h r t k v → Wrote h u k → IsSoFar h p end r k ↔ IsSoFar h (p + 1) 0 r k
+      behind r k v u saw wrote = (
+        (λ w. elim w [ inl less ↦ inl (omega arith) | inr here ↦ (let same = here.0 in inl (omega arith)) ]),
+        (λ w. elim w [
+          | inl less ↦ elim (cases_lt r p) [
+            | inl under ↦ inl under
+            | inr after ↦
+                let same : r ≡ p = omega arith in
+                let i = inside k v u (subst (λ x. SawAt h x t k v) same saw) wrote in
+                inr (same, i.0, i.1, i.3)
+          ]
+          | inr here ↦ absurd (let low = here.3 in omega arith)
+        ]),
+      )
+
+-- ---- Where the version stands that was seen by a read of a written key.
+
+-- version v of k stands at the position and isn't t's own, or it is that or is as of no place
+abbrev pub IsStanding : List Event → ℕ → ℕ → ℕ → Option ℕ → Type 0
+IsStanding h t k v position = MatchOption position ((c : ℕ) → v ≢ t → ¬ IsAsOf h v c) (λ q. (version : KeyVersion) × IsAtPosition h q version × (version.key ≡ k) × IsAsOf h v version.commit × (v ≢ t))
+
+module _ (h : List Event) (wf : IsWellFormed h) (t k write : ℕ) where
+  -- version 0 stands first
+  stands_first : (p i q : ℕ) → write ≡ 0 → IsKeyAt h i k → SawAt h p t k (version_at (names_of h) write)
+      → (version : KeyVersion) × IsAtPosition h q version × IsKeyAt h i version.key × (version.commit ≡ 0)
+      → IsStanding h t k (version_at (names_of h) write) (Some q)
+  stands_first p i q none at saw first =
+      let zero : version_at (names_of h) write ≡ 0 = ap (version_at (names_of h)) none in
+      let positive = (actor_is_txn h wf t p (saw.0, saw.1, saw.2)).0 in
+      (first.0, first.1, one_key h i first.0.key k first.2 at, inl (zero, first.3), λ same. omega arith)
+
+  -- and that of a write where the write's does
+  stands_written : 0 < write → write ≤ length (writes_of h) → (write_at (names_of h) (write - 1)).0 ≡ k → version_at (names_of h) write ≢ t → (position : Option ℕ)
+      → MatchOption position (¬ IsCommitted h (write_at (names_of h) (write - 1)).1) (λ q. (version : KeyVersion) × IsAtPosition h q version
+      × (version.key ≡ (write_at (names_of h) (write - 1)).0) × (version.txn ≡ (write_at (names_of h) (write - 1)).1) × (0 < version.commit))
+      → IsStanding h t k (version_at (names_of h) write) position
+  stands_written some bound key other position there =
+      let next : suc (write - 1) ≡ write = omega arith in
+      of_position (ap (version_at (names_of h)) next) position there
+    where
+      of_position : (write_at (names_of h) (write - 1)).1 ≡ version_at (names_of h) write → (position : Option ℕ)
+          → MatchOption position (¬ IsCommitted h (write_at (names_of h) (write - 1)).1) (λ q. (version : KeyVersion) × IsAtPosition h q version
+          × (version.key ≡ (write_at (names_of h) (write - 1)).0) × (version.txn ≡ (write_at (names_of h) (write - 1)).1) × (0 < version.commit))
+          → IsStanding h t k (version_at (names_of h) write) position
+      of_position same None none = λ c _ is. elim is [
+        | inl zero ↦
+            let wrote = write_wrote h write some bound in
+            let positive = (actor_is_txn h wf (write_at (names_of h) (write - 1)).1 wrote.0 (Write (write_at (names_of h) (write - 1)).1 (write_at (names_of h) (write - 1)).0, wrote.1, refl)).0 in
+            let begin = zero.0 in
+            omega arith
+        | inr commits ↦ none (c, subst (λ u. CommitsAt h u c) (sym same) commits)
+      ]
+      of_position same (Some q) at =
+          (at.0, at.1, at.2 ∙ key, subst (λ u. IsAsOf h u at.0.commit) (at.3 ∙ same) (at_as_of h q at.0 at.1), other)
+
+  -- one of three: version 0 of key number i, a version of its own, or that of a write
+  abbrev pub IsFound : ℕ → Option ℕ → Type 0
+  IsFound i position = ((write ≡ 0) × (q : ℕ) × ((version : KeyVersion) × IsAtPosition h q version × IsKeyAt h i version.key × (version.commit ≡ 0)) × (position ≡ Some q))
+      ⊎ ((position ≡ None) × (r : ℕ) × (r ≡ version_at (names_of h) write) × (r ≡ t))
+      ⊎ ((write ≢ 0) × (r : ℕ) × (r ≡ version_at (names_of h) write) × (r ≢ t) × (there : Option ℕ) × (position ≡ there)
+      × MatchOption there (¬ IsCommitted h (write_at (names_of h) (write - 1)).1) (λ q. (version : KeyVersion) × IsAtPosition h q version
+      × (version.key ≡ (write_at (names_of h) (write - 1)).0) × (version.txn ≡ (write_at (names_of h) (write - 1)).1) × (0 < version.commit)))
+
+  pub stands_at : (p i : ℕ) → write ≤ length (writes_of h) → IsKeyAt h i k → (0 < write → (write_at (names_of h) (write - 1)).0 ≡ k) → SawAt h p t k (version_at (names_of h) write)
+      → (position : Option ℕ) → IsFound i position → IsStanding h t k (version_at (names_of h) write) position
+  stands_at p i bound at key saw position (inl zero) = subst (IsStanding h t k (version_at (names_of h) write)) (sym zero.3) (stands_first p i zero.1 zero.0 at saw zero.2)
+  stands_at p i bound at key saw position (inr (inl own)) = subst (IsStanding h t k (version_at (names_of h) write)) (sym own.0) (λ c other. absurd (other (sym own.2 ∙ own.3)))
+  stands_at p i bound at key saw position (inr (inr made)) = grind (arith, stands_written)
+
+  -- what stands nowhere tells nothing
+  pub sees_nothing : (p n : ℕ) → IsKeyAt h n k → SawAt h p t k (version_at (names_of h) write) → IsStanding h t k (version_at (names_of h) write) None → (b : Bounds) → Sees h t p n p (n + 1) b b
+  sees_nothing p n at saw none b = sees_kept h wf t p n (n + 1) b (omega arith) (λ i j u c low less here seen other is.
+      let number : i ≡ n = omega arith in
+      let same : j ≡ k = one_key h n j k (subst (λ m. IsKeyAt h m j) number here) at in
+      let version : u ≡ version_at (names_of h) write = one_saw h wf t p k u (version_at (names_of h) write) (subst (λ l. SawAt h p t l u) same seen) saw in
+      absurd (none c (λ own. other (version ∙ own)) (subst (λ x. IsAsOf h x c) version is)))
+
+-- what the sight of a version that a write made does to the bounds
+abbrev pub Puts : ℕ → ℕ → ℕ → ℕ → Bounds → Bounds → List Event → Type 0
+Puts t p n write old new h = (k : ℕ) → IsKeyAt h n k → (0 < write → (write_at (names_of h) (write - 1)).0 ≡ k) → SawAt h p t k (version_at (names_of h) write) → Sees h t p n p (n + 1) old new

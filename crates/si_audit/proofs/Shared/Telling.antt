@@ -1,5 +1,5 @@
 -- What is told of the things of a list, one after another, and that it is one.
-use Rattle.std.proofs.Common.{◌≡◌, ℕ, List, [], ◌∷◌, ◌++◌, refl, sym, ◌∙◌, Contains, Bor, Option, Some, None, ◌+◌, ◌<◌, length, take, flat_map, get_or, ap, ap₂, subst, append_assoc, append-nil}
+use Rattle.std.proofs.Common.{◌≡◌, ℕ, List, [], ◌∷◌, ◌++◌, refl, sym, ◌∙◌, Contains, Bor, Option, Some, None, ◌+◌, ◌<◌, length, take, flat_map, get_or, ap, ap₂, subst, append_assoc, append-nil, arith}
 use Rattle.sia_parts.proofs.Auditing.Members.{contains_first, contains_later}
 use Rattle.si_audit.specs.Explained.{TellsAll, WithReasons, TellsIf}
 use Rattle.std.proofs.lemmas.List.{take_more}
@@ -44,11 +44,7 @@ told_none Tells o = ([], refl, sym (append-nil o))
 -- the next thing of a list is told
 pub next_told : {A : Type 0} (Tells : A → List ℕ → Type 0) (xs : List A) (i : ℕ) (d : A) (o m n : List ℕ) → i < length xs
     → IsToldBehind (TellsAll Tells (take i xs)) o m → IsToldBehind (Tells (get_or xs i d)) m n → IsToldBehind (TellsAll Tells (take (i + 1) xs)) o n
-next_told Tells xs i d o m n inside before one = (
-  before.0 ++ one.0,
-  subst (λ ys. TellsAll Tells ys (before.0 ++ one.0)) (sym (take_more xs i d inside)) (told_more Tells (take i xs) (get_or xs i d) before.0 one.0 before.1 one.1),
-  one.2 ∙ ap (λ (c : List ℕ). c ++ one.0) before.2 ∙ append_assoc o before.0 one.0,
-)
+next_told Tells xs i d o m n inside before one = grind (arith, take_more, told_more, append_assoc)
 
 -- the same of an element of a type that may own memory
 pub next_item_told : {A : Type 0} (Tells : A → List ℕ → Type 0) (xs : List A) (i : ℕ) (x : A) (o m n : List ℕ) → i < length xs → x ≡ get_or xs i x
@@ -57,8 +53,7 @@ next_item_told Tells xs i x o m n inside is before one = next_told Tells xs i x 
 
 -- a line, and what is told below it
 pub with_reasons : {A : Type 0} (line_of : A → List ℕ) (Tells : A → List ℕ → Type 0) (x : A) (o m n : List ℕ) → m ≡ o ++ line_of x → IsToldBehind (Tells x) m n → IsToldBehind (WithReasons line_of Tells x) o n
-with_reasons line_of Tells x o m n line below =
-    (line_of x ++ below.0, (below.0, below.1, refl), below.2 ∙ ap (λ (c : List ℕ). c ++ below.0) line ∙ append_assoc o (line_of x) below.0)
+with_reasons line_of Tells x o m n line below = grind (arith, append_assoc)
 
 -- below a line, where reasons are wanted
 pub told_if_some : {A : Type 0} (o : Option (Bor Recorded)) (of : Bor Recorded) (Tells : List Event → A → List ℕ → Type 0) (x : A) (m n : List ℕ) → o ≡ Some of → IsToldBehind (Tells of.now.history.now x) m n → IsToldBehind (TellsIf o Tells x) m n

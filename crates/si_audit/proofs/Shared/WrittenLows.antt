@@ -1,5 +1,5 @@
 -- The latest commit that a transaction's writes ask for, as it is found version by version.
-use Rattle.std.proofs.Common.{◌≡◌, ◌⊎◌, inl, inr, ℕ, ◌+◌, ◌<◌, ◌≤◌, Bool, true, false, ltb, List, [], Option, Some, None, length, get_or, take, refl, sym, subst, ◌∙◌, arith, All, AllPairs, Contains, MatchOption, is_some, not, slice_index, unwrap_or}
+use Rattle.std.proofs.Common.{◌≡◌, ◌⊎◌, inl, inr, ℕ, ◌+◌, ◌<◌, ◌≤◌, Bool, true, false, ltb, List, [], Option, Some, length, get_or, take, refl, sym, subst, ◌∙◌, arith, All, AllPairs, Contains, MatchOption, is_some, not, slice_index, unwrap_or}
 use Rattle.std.specs.List.Sorted.{IsPartitionPoint}
 use Rattle.std.proofs.lemmas.Bool.{cases_lt, false≢true, ltb-false, ltb-true, not_from_false}
 use Rattle.std.proofs.lemmas.List.{get_or_default}
@@ -46,17 +46,14 @@ found_at ids up from t at same point (k, below, here) =
 
 -- a look-up finds what committed
 pub committed_there : (h : List Event) (t : ℕ) (o : Option Lifetime) (none : Bool) → is_some o ≡ not none → none ≡ false → MatchOption o (¬ IsCommitted h t) (IsLifetime h t) → IsCommitted h t
-committed_there h t None b is some none = absurd (false≢true (is ∙ not_from_false b some))
-committed_there h t (Some l) b is some there = (l.commit, there.1)
+committed_there h t o none is some p = grind (arith, false≢true, not_from_false)
 
 -- and a version before one that was made, and its transaction's first write of the key
 pub before_there : (h : List Event) (v : KeyVersion) (n : ℕ) (o : Option ℕ) (q : ℕ) → q ≡ unwrap_or o 0 → 0 < v.commit → MatchOption o (v.commit ≡ 0) (IsBefore h v n) → IsBefore h v n q
-before_there h v n None q is some none = absurd (omega arith)
-before_there h v n (Some p) q is some there = subst (IsBefore h v n) (sym is) there
+before_there h v n o q is some none = grind arith
 
 pub first_there : (h : List Event) (t k : ℕ) (o : Option ℕ) (p : ℕ) → p ≡ unwrap_or o 0 → Wrote h t k → MatchOption o (¬ Wrote h t k) (IsFirstWrite h t k) → IsFirstWrite h t k p
-first_there h t k None p is wrote none = absurd (none wrote)
-first_there h t k (Some q) p is wrote there = subst (IsFirstWrite h t k) (sym is) there
+first_there h t k o p is wrote none = grind arith
 
 -- what t's version at position q asks for is the bound's commit with a place no less than its own, or an earlier commit
 abbrev pub IsUpTo : List Event → ℕ → Bound → ℕ → Type 0

@@ -2,7 +2,7 @@
 use Rattle.std.proofs.Common.{◌≡◌, ◌≢◌, ℕ, [], ◌++◌, ◌∙◌, ap, refl, subst, sym, codes}
 use Rattle.std.proofs.lemmas.Result.{on_ok_weaker}
 use Rattle.sia_parts.specs.declared.finding.Kind.{Kind}
-use Rattle.sia_parts.specs.declared.finding.Kind.TheVariants.{Ww, Wr, Rw}
+use Rattle.sia_parts.specs.declared.finding.Kind.TheVariants.{Wr}
 use Rattle.sia_parts.specs.Telling.{TellsUnless, event_words}
 use Rattle.sia_parts.proofs.OfReasons.PushedWords.{behind}
 use Rattle.sia_parts.proofs.OfReasons.Sighted.{edge_is_seen, edge_writer}
@@ -12,9 +12,8 @@ use Rattle.si_audit.proofs.explain.push_sight.Goals.{in-Wr, in_default-kind}
 
 -- of all but a wr edge no version is untold
 untold : (kind : Kind) (t : ℕ) → kind ≢ Wr → 0 ≡ untold_of kind t
-untold Ww t other = refl
 untold Wr t other = absurd (other refl)
-untold Rw t other = refl
+untold kind t other = refl
 
 pub first_sight-requires-clause-writer : goal.first_sight-requires-clause-writer
 first_sight-requires-clause-writer c = edge_writer c.args.of.now.history.now c.args.e.now c.requires.edge

@@ -17,7 +17,7 @@ use Rattle.si_audit.specs.Reasons.{reason}
 use Rattle.si_audit.specs.SnapshotLines.{TellsExcluded, TellsNone, bare_words, bound_words, spell_bare}
 use Rattle.si_audit.specs.Snapshots.{IsFirst, IsInNone, IsSnapshot}
 use Rattle.si_audit.specs.declared.snapshots.Bounds.{Bounds}
-use Rattle.si_audit.proofs.Shared.KnownSnapshots.{excluded, latest, needed}
+use Rattle.si_audit.proofs.Shared.KnownRows.{excluded, latest, needed}
 use Rattle.si_audit.proofs.Shared.Telling.{IsToldBehind}
 use Rattle.si_audit.proofs.snapshot_lines.push_none.Goals as goal
 use Rattle.si_audit.proofs.snapshot_lines.push_none.Goals.{in_default-row-via-in-Some+in_default, in_default-row-via-in_default}
@@ -39,14 +39,8 @@ range_bare names d r w t lo hi same least most = λ i. codes "r" ++ numeral (sam
 
 -- of all but a range the pairs make no difference
 bare_of : (names : Names) (o : Option Row) → ((d r w : ℕ) → o ≢ Some (rows.Range d r w)) → spell_about 0 (option_map (event_of names) o) ≡ spell_bare (option_map (event_of names) o)
-bare_of names None other = refl
-bare_of names (Some (rows.Begin d start)) other = refl
-bare_of names (Some (rows.Read d k w)) other = refl
-bare_of names (Some (rows.OwnRead d k w)) other = refl
 bare_of names (Some (rows.Range d r w)) other = absurd (other d r w refl)
-bare_of names (Some (rows.Write d k w)) other = refl
-bare_of names (Some (rows.Commit d)) other = refl
-bare_of names (Some (rows.Abort d)) other = refl
+bare_of names o other = refl
 
 if_none : {A : Type 0} (P : Type 0) (Q : A → Type 0) (o : Option A) → ((a : A) → o ≢ Some a) → MatchOption o P Q → P
 if_none P Q None other m = m

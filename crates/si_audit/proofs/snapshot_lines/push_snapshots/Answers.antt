@@ -15,9 +15,8 @@ use Rattle.si_audit.specs.declared.snapshots.Bounds.{Bounds}
 use Rattle.si_audit.specs.Lines.{line}
 use Rattle.si_audit.specs.SnapshotLines.{TellsSnapshot}
 use Rattle.si_audit.specs.Snapshots.{IsSnapshot}
-use Rattle.si_audit.proofs.Shared.KnownFits.{row_known}
-use Rattle.si_audit.proofs.Shared.KnownSnapshots.{early, spans}
-use Rattle.si_audit.proofs.Shared.SnapshotStarts.{fits_start_or_not}
+use Rattle.si_audit.proofs.Shared.KnownRows.{row_known, early, spans}
+use Rattle.si_audit.proofs.Shared.SnapshotsExist.{fits_start_or_not}
 use Rattle.si_audit.proofs.Shared.Telling.{IsToldBehind, next_told}
 use Rattle.si_audit.proofs.snapshot_lines.push_snapshots.Goals as goal
 use Rattle.si_audit.proofs.snapshot_lines.push_snapshots.Goals.{In-loop-row, then-b+then-fits+in_ok-push_number+in_ok-push_number-2+in_ok-push_number-3, else-b+then-b-2+in_ok-push_number-4+in_ok-push_none, else-b-via-then-b+else-fits, else-b-via-else-b, else-b+else-b-2}

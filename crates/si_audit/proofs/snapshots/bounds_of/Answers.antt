@@ -10,8 +10,7 @@ use Rattle.sia_parts.proofs.Shared.RowTxns.{txn_acts, txn_within}
 use Rattle.si_audit.specs.Bounds.{EachTxn, IsBound, IsKnownOf, IsKnownTo, IsLow}
 use Rattle.si_audit.specs.Snapshots.{ReadAsks}
 use Rattle.si_audit.specs.declared.snapshots.Bounds.{Bounds}
-use Rattle.si_audit.proofs.Shared.EachKnown.{AreKnownFrom, each_set, same_row}
-use Rattle.si_audit.proofs.Shared.KnownRows.{access_actor, known_fit, known_of, known_of_fit, known_on, none_accesses}
+use Rattle.si_audit.proofs.Shared.KnownRows.{AreKnownFrom, each_set, same_row, access_actor, known_fit, known_of, known_of_fit, known_on, none_accesses}
 use Rattle.si_audit.proofs.snapshots.bounds_of.Goals as goal
 use Rattle.si_audit.proofs.snapshots.bounds_of.Goals.{After-txn_of-number, In-loop-number, in-Some+then-index, in-Some+else-index, in_default, then-index-2, else-index-2}
 

@@ -1,7 +1,7 @@
 -- The rows have what the events so far tell; then the rows so far have all that is to be known.
 use Rattle.std.proofs.Common.{◌+◌}
 use Rattle.si_audit.specs.Bounds.{EachTxn, IsKnownTo}
-use Rattle.si_audit.proofs.Shared.EachKnown.{AreKnownFrom}
+use Rattle.si_audit.proofs.Shared.KnownRows.{AreKnownFrom}
 use Rattle.si_audit.proofs.snapshots.bounds_of.Given as goal
 
 abbrev pub invariant-loop-before : goal.invariant-loop-before

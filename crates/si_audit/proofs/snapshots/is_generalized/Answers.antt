@@ -9,7 +9,7 @@ use Rattle.sia_index.proofs.Shared.NumberedNames.{same_some}
 use Rattle.si_audit.specs.Bounds.{IsKnownOf}
 use Rattle.si_audit.specs.Snapshots.{IsSnapshot}
 use Rattle.si_audit.specs.declared.snapshots.Bounds.{Bounds}
-use Rattle.si_audit.proofs.Shared.KnownFits.{row_known}
+use Rattle.si_audit.proofs.Shared.KnownRows.{row_known}
 use Rattle.si_audit.proofs.Shared.Marking.{unknown}
 use Rattle.si_audit.proofs.snapshots.is_generalized.Goals.{In-loop-number}
 use Rattle.si_audit.proofs.snapshots.is_generalized.Goals as goal

@@ -1,20 +1,15 @@
 -- The texts of the cuts, where the matches have some, are numbers of 64 bits.
-use Rattle.std.proofs.Common.{◌≡◌, ◌∙◌, ◌+◌, ◌<◌, ◌++◌, length, take, get_or, ap₂, refl, sym, subst, ap, arith, zero, suc, map, ℕ, List, [], ◌∷◌, Option, Some, None, codes, Bor, All, IfSome, option_map, unwrap_or}
+use Rattle.std.proofs.Common.{◌≡◌, ◌∙◌, ◌+◌, ◌<◌, ◌++◌, length, take, get_or, ap₂, refl, sym, subst, ap, map, ℕ, List, [], ◌∷◌, Option, Some, None, codes, Bor, All, IfSome, option_map, unwrap_or}
 use Rattle.std.proofs.lemmas.List.{map-append, take_all, take_more}
 use Rattle.clap.specs.Words.{IsUnsignedIn, Text, all_of, found_of, matched_of, raw_values, rows_of}
 use Rattle.clap.specs.declared.parser.matches.Found.{Found}
 use Rattle.clap.proofs.WalkLemmas.{raw_values-rows}
 use Rattle.si_audit.specs.Words.{cuts_among, number_in}
+use Rattle.si_audit.proofs.OfReasons.Rounds.{all_of_map}
 use Rattle.si_audit.proofs.words.cuts_in.Goals as goal
 
 texts_are : (f : Found) (o : Option (List Text)) → o ≡ option_map raw_values (matched_of f (codes "cut")) → o ≡ all_of (codes "cut") (rows_of f)
 texts_are f o is = is ∙ raw_values-rows f (codes "cut")
-
--- what holds of the texts behind references holds of each
-behind : (lo hi : ℕ) (vs : List (Bor Text)) → All (IsUnsignedIn lo hi) (map (λ v. v.now) vs) → All (λ v. IsUnsignedIn lo hi v.now) vs
-behind lo hi [] h k d lt = absurd (omega arith)
-behind lo hi (v ∷ vs) h zero d lt = h 0 v.now (omega arith)
-behind lo hi (v ∷ vs) h (suc k) d lt = behind lo hi vs (λ j t less. h (suc j) t (omega arith)) k d (omega arith)
 
 numbers_behind : (vs : List (Bor Text)) → map (λ t. number_in t.now) vs ≡ map number_in (map (λ v. v.now) vs)
 numbers_behind [] = refl
@@ -32,7 +27,7 @@ one_more texts i d ns n lt so_far last =
 pub number-requires : goal.number-requires
 number-requires c =
     let is = texts_are (found_of c.args.matches.now) (Some (map (λ v. v.now) c.in-Some.texts.now)) c.in-Some.ensures in
-    behind 0 18446744073709551615 c.in-Some.texts.now
+    all_of_map (IsUnsignedIn 0 18446744073709551615) (λ (v : Bor Text). v.now) c.in-Some.texts.now _ refl
     (subst (λ (o : Option (List Text)). IfSome o (All (IsUnsignedIn 0 18446744073709551615))) (sym is) c.requires.cuts) c.loop-text.text-index _ c.loop-text-test.true
 
 pub loop-text-preserved : goal.loop-text-preserved

@@ -36,8 +36,7 @@ owed_from rows words UnknownLevel is taken h = record {
   taken = taken;
   none = ap level_among (sym is) ∙ h;
 }
-owed_from rows words (Help text) is taken h = absurd h
-owed_from rows words (Usage text) is taken h = absurd h
+owed_from rows words fault is taken h = absurd h
 
 -- words that are taken are told of by want of memory alone
 told_owed : (words : List Text) (fault : LineFault) → (takes program words ≡ true → fault ≡ NoMemory) → fault ≢ TooManyCuts → fault ≢ UnknownLevel → IsOwed words fault

@@ -3,8 +3,7 @@ use Rattle.std.specs.Prelude.{MatchOption, is_some}
 use Rattle.std.proofs.lemmas.Bool.{both_ways, lt-ltb, ltb-true, not_from_false, not_from_true}
 use Rattle.sia_parts.proofs.Shared.Options.{if_not_there}
 use Rattle.si_audit.specs.Snapshots.{IsFirst}
-use Rattle.si_audit.proofs.Shared.KnownFits.{start_fits}
-use Rattle.si_audit.proofs.Shared.KnownSnapshots.{snapshots_between}
+use Rattle.si_audit.proofs.Shared.KnownRows.{start_fits, snapshots_between}
 use Rattle.si_audit.proofs.Shared.SnapshotBounds.{fits_bounds}
 use Rattle.si_audit.proofs.snapshots.Bounds.fits.Goals as goal
 

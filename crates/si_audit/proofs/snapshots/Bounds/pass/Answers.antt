@@ -4,8 +4,7 @@ use Rattle.std.specs.Prelude.{slice_index}
 use Rattle.sia_events.proofs.OfLaws.Seen.{actor_is_txn}
 use Rattle.sia_index.specs.Info.{IsKeyAt}
 use Rattle.sia_index.proofs.Shared.KeyChains.{key_number}
-use Rattle.si_audit.proofs.Shared.SightsSoFar.{sees_then}
-use Rattle.si_audit.proofs.Shared.SoFar.{sees_passed}
+use Rattle.si_audit.proofs.Shared.SoFar.{sees_then, sees_passed}
 use Rattle.si_audit.proofs.snapshots.Bounds.pass.Goals as goal
 
 pub bounds-written_keys-number : goal.bounds-written_keys-number

@@ -5,7 +5,7 @@ use Rattle.sia_events.specs.Numbering.{names_of, version_at, writes_of}
 use Rattle.sia_events.specs.Reads.{SawAt}
 use Rattle.sia_index.specs.Info.{IsKeyAt}
 use Rattle.sia_index.proofs.Shared.KeyChains.{key_number}
-use Rattle.si_audit.proofs.Shared.Standing.{IsStanding, Puts, sees_nothing, stands_at}
+use Rattle.si_audit.proofs.Shared.SoFar.{IsStanding, Puts, sees_nothing, stands_at}
 use Rattle.si_audit.proofs.snapshots.Bounds.put.Goals as goal
 use Rattle.si_audit.proofs.snapshots.Bounds.put.Goals.{then-write-eq0, else-write-eq0+then-version-txn, else-write-eq0+else-version-txn}
 

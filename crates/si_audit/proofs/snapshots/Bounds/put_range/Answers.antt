@@ -14,8 +14,8 @@ use Rattle.sia_parts.proofs.Shared.FewNumbers.{few_keys, few_written}
 use Rattle.sia_parts.proofs.Shared.OneNumber.{one_key}
 use Rattle.si_audit.specs.Bounds.{Sees}
 use Rattle.si_audit.specs.declared.snapshots.Bounds.{Bounds}
-use Rattle.si_audit.proofs.Shared.RangeSights.{range_seen}
-use Rattle.si_audit.proofs.Shared.SightsSoFar.{sees_place, sees_then}
+use Rattle.si_audit.proofs.Shared.RowTells.{range_seen}
+use Rattle.si_audit.proofs.Shared.SoFar.{sees_place, sees_then}
 use Rattle.si_audit.proofs.snapshots.Bounds.put_range.Goals as goal
 use Rattle.si_audit.proofs.snapshots.Bounds.put_range.Goals.{in-Some, in_default}
 

@@ -1,6 +1,6 @@
 -- What is known goes up to number `next`: the keys of the pairs so far have numbers below it, and those of the others don't.
 use Rattle.si_audit.specs.Bounds.{Sees}
-use Rattle.si_audit.proofs.Shared.RangeSights.{CoveredTo, IsRangeSeen}
+use Rattle.si_audit.proofs.Shared.RowTells.{CoveredTo, IsRangeSeen}
 use Rattle.si_audit.proofs.snapshots.Bounds.put_range.Given as goal
 
 abbrev pub invariant-loop-pair : goal.invariant-loop-pair
