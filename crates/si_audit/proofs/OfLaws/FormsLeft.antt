@@ -18,7 +18,7 @@ use Rattle.si_audit.specs.declared.options.Form.{Form}
 use Rattle.si_audit.specs.declared.options.Form.TheVariants.{Full, Brief, Explained}
 use Rattle.si_audit.specs.Explained.{IsExplained, TellsAll, TellsDanger, TellsVerdict, WithReasons, dangerous_edges, dangerous_line, edges_round}
 use Rattle.si_audit.specs.Laws.{FormsLaw}
-use Rattle.si_audit.specs.Lines.{bad_read_line, bad_write_line, edge_word, events_line, is_empty, isolation_line, refusal_line, report_text, serializable_line, ssi_line, unexplained_line, verdict_line}
+use Rattle.si_audit.specs.Lines.{bad_read_line, bad_write_line, edge_word, events_line, is_empty, isolation_line, refusal_line, report_text, unexplained_line, verdict_line}
 use Rattle.si_audit.specs.Reasons.{TellsBadRead, TellsBadWrite, TellsStep, TellsUnexplained}
 use Rattle.si_audit.specs.RefusedPlaces.{TellsToken, place_line}
 use Rattle.si_audit.specs.Report.{IsReport, TellsAccount, TellsRefusal}
@@ -89,8 +89,7 @@ module _ (h : List Event) where
       let tested = leaves_both keep (leaves_both keep found (leaves_line keep _ true (ssi_is a.pass) refl)) (danger_goes danger told_danger) in
       let settled = with_left keep verdict_line (TellsVerdict h) a.verdict true (verdict_is a.verdict) (verdict_begins (λ l. keep l ≡ true) (λ w. refl) (λ w. refl) a.verdict) (verdict_goes a.verdict) verdict told_verdict in
       let all = leaves_both keep (leaves_both keep tested (leaves_line keep _ true (serializable_is a.serializable) refl)) settled in
-      subst (λ (b : List ℕ). Leaves keep b (report_text Brief a)) (sym is)
-      (subst (Leaves keep _) (same_lines (events_line a.events a.committed a.aborted a.unfinished ++ isolation_line (is_empty a.bad_reads && is_empty a.bad_writes) ++ flat_map bad_read_line a.bad_reads ++ flat_map bad_write_line a.bad_writes ++ flat_map unexplained_line a.unexplained) (ssi_line a.pass) (serializable_line a.serializable) (verdict_line a.verdict)) all)
+      grind (arith, same_lines)
 
 -- what is shown of a byte
 byte_unbroken : (c : ℕ) → IsUnbroken (shown_byte c)

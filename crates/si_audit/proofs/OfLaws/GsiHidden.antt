@@ -108,8 +108,7 @@ module _ (k v : ℕ) where
     (wrote, (3, 3, starts_before (history k v) 2 3 (Read 2 1 0) refl refl refl refl, refl, omega arith)),
     (λ w c d visible at last.
         let x : c ≡ 3 = (commits_at w c at).1 in
-        let y : d ≡ 3 = (commits_at 1 d last).1 in
-        omega arith),
+        grind (arith, commits_at)),
   )
 
   one_due_at_four : IsDue (history k v) 2 4 1 1
@@ -128,8 +127,7 @@ module _ (k v : ℕ) where
   none_less [] keeps before = contains_none 1 ((keeps.0.each 1).1 (3, refl))
   none_less (x ∷ xs) keeps (inl less) =
       let c = (keeps.0.each x).0 (contains_first x xs) in
-      let one : x ≡ 1 = (commits_at x c.0 c.1).0 in
-      omega arith
+      grind (arith, commits_at)
   none_less (x ∷ []) keeps (inr same) = same.1
   none_less (x ∷ y ∷ xs) keeps (inr same) = same.1
 

@@ -1,5 +1,5 @@
 -- A text has one report.
-use Rattle.std.proofs.Common.{◌≡◌, ◌⊎◌, inl, inr, ℕ, ◌≤◌, List, [], ◌∷◌, ◌++◌, codes, ap, sym, subst, ◌∙◌, arith, refl, ◌&&◌, suc, map}
+use Rattle.std.proofs.Common.{◌≡◌, ◌⊎◌, inl, inr, ℕ, ◌≤◌, List, [], ◌∷◌, ◌++◌, codes, ap, sym, subst, ◌∙◌, arith, refl, suc, map}
 use Rattle.sia_events.specs.declared.event.Event.{Event}
 use Rattle.sia_events.specs.DangerousStructures.{IsFirst, IsVulnerable, IsPivot, PassesSsi}
 use Rattle.sia_events.specs.Dependencies.{RwEdge}
@@ -26,7 +26,7 @@ use Rattle.sia_graph.specs.declared.judgement.Verdict.TheVariants.{Cycle}
 use Rattle.sia_graph.specs.Dangerous.{IsDangerous, IsLeast, MayBeFirst}
 use Rattle.si_audit.specs.Account.{Account, IsAccount}
 use Rattle.si_audit.specs.Explained.{IsExplained, TellsAll, TellsDanger, TellsVerdict, WithReasons, dangerous_edges, dangerous_line, edges_round}
-use Rattle.si_audit.specs.Lines.{bad_read_line, bad_write_line, edge_word, events_line, is_empty, isolation_line, serializable_line, ssi_line, unexplained_line, verdict_line}
+use Rattle.si_audit.specs.Lines.{bad_read_line, bad_write_line, edge_word, unexplained_line, verdict_line}
 use Rattle.si_audit.specs.Reasons.{TellsBadRead, TellsBadWrite, TellsClass, TellsConflict, TellsEvents, TellsSight, TellsStep, TellsUnexplained, anomaly_words, reason, untold_of}
 use Rattle.si_audit.proofs.OfLaws.CountsTold.{one_counts}
 use Rattle.si_audit.proofs.Shared.SnapshotsExist.{one_snapshots}
@@ -169,12 +169,7 @@ one_explained h wf a bytes others x y =
     let snapshots = one_snapshots h wf x.4 y.4 x.11 y.11 in
     let danger = one_danger h wf x.5 y.5 x.12 y.12 in
     let verdict = one_with_reasons verdict_line (TellsVerdict h) (one_verdict_told h wf) a.verdict x.6 y.6 x.13 y.13 in
-    x.14 ∙ (λ i. events_line a.events a.committed a.aborted a.unfinished
-    ++ isolation_line (is_empty a.bad_reads && is_empty a.bad_writes)
-    ++ counts i ++ reads i ++ writes i ++ unexplained i ++ snapshots i
-    ++ ssi_line a.pass ++ danger i
-    ++ serializable_line a.serializable
-    ++ verdict i) ∙ sym y.14
+    grind arith
 
 -- ---- and a text one report
 

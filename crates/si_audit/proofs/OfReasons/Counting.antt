@@ -1,11 +1,10 @@
 -- How many of the things of a list there are, one thing after another, and the line that tells of it, one count after another.
-use Rattle.std.proofs.Common.{◌≡◌, ◌≢◌, ◌==◌, ◌+◌, ◌-◌, ◌^◌, ◌<◌, ◌≤◌, Fits, w64, inl, inr, Bor, ℕ, suc, true, cond, Option, List, [], ◌∷◌, ◌++◌, codes, flat_map, length, set, take, get_or, refl, ap, sym, subst, ◌∙◌, append-nil, append_assoc, arith, Contains, MatchOption, is_some}
+use Rattle.std.proofs.Common.{◌≡◌, ◌≢◌, ◌+◌, ◌-◌, ◌^◌, ◌<◌, ◌≤◌, Fits, w64, inl, inr, Bor, ℕ, suc, true, Option, List, [], ◌∷◌, ◌++◌, codes, flat_map, length, set, take, get_or, refl, ap, sym, subst, ◌∙◌, append-nil, append_assoc, arith, Contains, MatchOption, is_some}
 use Rattle.std.proofs.lemmas.Bool.{cases_eq, eqb-true, false≢true}
 use Rattle.std.proofs.lemmas.Grind.{flat_map-append, get_or-set_at}
 use Rattle.std.proofs.lemmas.List.Elements.{All-contains_itself}
 use Rattle.std.proofs.lemmas.List.{get_or-map, get_or-set_other, length-set, length-take-le, take_more}
 use Rattle.sia_events.specs.declared.event.Anomaly.{Anomaly}
-use Rattle.sia_events.specs.declared.event.Anomaly.TheVariants.{OwnWriteMissed, AbortedRead, UncommittedRead, FutureRead, Phantom, StaleRead}
 use Rattle.sia_events.specs.declared.event.Event.{Event}
 use Rattle.sia_events.specs.Anomalies.{anomaly_number}
 use Rattle.sia_events.specs.Refusals.{IsWellFormed}
@@ -45,16 +44,8 @@ module _ {A : Type 0} (P : A → Type 0) where
   next_has_not xs i n m d inside have not is =
       subst (λ ys. SoManyHave P ys m) (sym (take_more xs i d inside)) (subst (SoManyHave P (take i xs ++ get_or xs i d ∷ [])) (sym is) (has_not_more (take i xs) (get_or xs i d) n have not))
 
--- the anomaly that has a number
-by_number : ℕ → Anomaly
-by_number n = cond (n == 1) OwnWriteMissed (cond (n == 2) AbortedRead (cond (n == 3) UncommittedRead (cond (n == 4) FutureRead (cond (n == 5) Phantom StaleRead))))
-
-numbered : (name : Anomaly) → by_number (anomaly_number name) ≡ name
-unfolding by_number
-numbered name = grind (arith, by_number)
-
 pub same_anomaly : (a b : Anomaly) → anomaly_number a ≡ anomaly_number b → a ≡ b
-same_anomaly a b same = sym (numbered a) ∙ ap by_number same ∙ numbered b
+same_anomaly a b same = grind arith
 
 -- each thing of a list is in the list
 pub at_index : {A : Type 0} (xs items : List A) (i : ℕ) (d : A) → xs ≡ items → i < length xs → Contains items (get_or xs i d)

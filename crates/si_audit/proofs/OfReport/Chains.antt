@@ -78,8 +78,7 @@ next_words ws i d o m n inside step before =
     let w = get_or ws i d in
     let so_far = flat_map words_of (take i ws) in
     let both : so_far ++ words_of w ≡ flat_map words_of (take (i + 1) ws) = sym (one_more_mapped words_of (take i ws) w) ∙ ap (flat_map words_of) (sym (take_more ws i d inside)) in
-    step ∙ ap (λ (x : List ℕ). x ++ spaced (words_of w)) before ∙ append_assoc o (spaced so_far) (spaced (words_of w))
-    ∙ ap (λ (x : List ℕ). o ++ x) (sym (spaced-append so_far (words_of w)) ∙ ap spaced both)
+    grind (arith, append_assoc, spaced-append)
 
 -- the parts of a report, which are its own front and back
 parts_of_report : (e i r w u d p s z v : List ℕ) → (e ++ i ++ r ++ w ++ u) ++ (d ++ p) ++ (s ++ z ++ v) ≡ e ++ i ++ r ++ w ++ u ++ d ++ p ++ s ++ z ++ v

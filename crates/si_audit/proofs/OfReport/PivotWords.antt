@@ -28,11 +28,8 @@ end_words (n ∷ rows) = []
 
 -- the words of a line by their numbers
 module _ {n : ℕ} (t : ℕ) (a b d e : Word n) (in_is : text_of a ≡ codes "pivot " ++ numeral t ++ codes " in") (out_is : text_of b ≡ codes " out") (first_is : text_of d ≡ codes " first") (end_is : text_of e ≡ codes "\n") where
-  begun : (x : Bool) (role : Role) → word_at (a ∷ b ∷ d ∷ e ∷ []) (cond x (role_number role) 4) ≡ cond x (role_words t role) []
-  begun x role = grind arith
-
   pub lead_is : (before : Option Role) (role : Role) → word_at (a ∷ b ∷ d ∷ e ∷ []) (lead_number before role) ≡ lead_words t before role
-  lead_is before role = begun (begins before role) role
+  lead_is before role = grind arith
 
   pub end_at : (rows : List Neighbour) → word_at (a ∷ b ∷ d ∷ e ∷ []) (end_number rows) ≡ end_words rows
   end_at rows = grind arith

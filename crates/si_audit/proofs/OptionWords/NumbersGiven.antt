@@ -1,5 +1,5 @@
 -- The matches of the program's words hold numbers: each text that they have passed its argument's parser.
-use Rattle.std.proofs.Common.{◌≡◌, ◌⊎◌, ◌∙◌, ◌<◌, ◌≤◌, ℕ, Bool, true, false, zero, suc, refl, sym, subst, ap, arith, inl, inr, List, [], ◌∷◌, map, length, Option, Some, None, codes, IfSome, IsSomeAnd, option_map, slice_get}
+use Rattle.std.proofs.Common.{◌≡◌, ◌⊎◌, ◌∙◌, ◌<◌, ℕ, Bool, true, false, zero, suc, refl, sym, subst, ap, arith, inl, inr, List, [], ◌∷◌, map, length, Option, Some, None, codes, IfSome, IsSomeAnd, option_map, slice_get}
 use Rattle.std.specs.List.{All, find, list_all, position_or_len, slice_index_or}
 use Rattle.std.specs.Str.{bytes_eq}
 use Rattle.std.specs.Borrow.{Bor}
@@ -7,17 +7,16 @@ use Rattle.std.proofs.lemmas.List.{length-map}
 use Rattle.std.proofs.lemmas.List.Elements.{All-map}
 use Rattle.std.proofs.lemmas.Slice.Eq.{bytes_eq-Decides}
 use Rattle.clap.specs.Texts.{items_of}
-use Rattle.clap.specs.Facts.{Entry, EntryPasses, HasIn, IsParsed, PassesArg, args_of, groups_of, parser_of_value, unwrap_or_range}
+use Rattle.clap.specs.Facts.{Entry, EntryPasses, HasIn, IsParsed, PassesArg, args_of, groups_of, parser_of_value}
 use Rattle.clap.specs.Built.{IsAuto, IsParsedFrom, SameRules}
 use Rattle.clap.specs.Words.{first_of}
 use Rattle.clap.specs.Matches.{first_value, found_of, has_subcommand, matched_of, raw_values}
 use Rattle.clap.specs.Values.{Accepts, IsUnsignedIn}
 use Rattle.clap.specs.Walk.{Rule, Text, rows_of, rule_of}
 use Rattle.clap.specs.Simple.{App, IsSimple, app_of, is_ready, is_ready_leaf}
-use Rattle.clap.specs.declared.builder.action.ArgAction.TheVariants.{Count, Set}
+use Rattle.clap.specs.declared.builder.action.ArgAction.TheVariants.{Set}
 use Rattle.clap.specs.declared.builder.arg.Arg.{Arg}
 use Rattle.clap.specs.declared.builder.command.Command.{Command}
-use Rattle.clap.specs.declared.builder.range.ValueRange.{ValueRange}
 use Rattle.clap.specs.declared.builder.value_parser.ValueParser.{ValueParser}
 use Rattle.clap.specs.declared.builder.value_parser.ValueParser.TheVariants as vp
 use Rattle.clap.specs.declared.parser.matches.ArgMatches.{ArgMatches}
@@ -37,8 +36,7 @@ place_of id = position_or_len (λ r. bytes_eq r.id id) rules
 
 own_place : (j : ℕ) (r : Rule) → j < 7 → place_of (slice_index_or rules j r).id ≡ j
 unfolding place_of
-own_place (suc (suc (suc (suc (suc (suc (suc j))))))) r lt = absurd (omega arith)
-own_place j r lt = refl
+own_place j r lt = grind arith
 
 at_mapped : (xs : List Arg) (j : ℕ) (e : Arg) → slice_index_or (map rule_of xs) j (rule_of e) ≡ rule_of (slice_index_or xs j e)
 at_mapped (x ∷ xs) (suc j) e = at_mapped xs j e
@@ -91,9 +89,7 @@ module _ (c : Command) (m : ArgMatches) (p : IsParsedFrom c m) (app : app_of c �
   -- no two arguments have one id
   one_id : (k : ℕ) (d : Arg) → k < 7 → (j : ℕ) (e : Arg) → j < length (args_of c)
       → bytes_eq (slice_index_or (args_of c) j e).id.now (slice_index_or (args_of c) k d).id.now ≡ true → j ≡ k
-  one_id k d lt j e low same =
-      let is = (bytes_eq-Decides (slice_index_or (args_of c) j e).id.now (slice_index_or (args_of c) k d).id.now).0 same in
-      sym (own_place j (rule_of e) (omega (arith, seven))) ∙ (ap place_of (sym (id_at j e) ∙ is ∙ id_at k d) ∙ own_place k (rule_of d) lt)
+  one_id k d lt j e low same = grind (arith, bytes_eq-Decides, own_place, seven, id_at)
 
   module _ (k : ℕ) (d : Arg) (lt : k < 7) (name : Text) (named : (slice_index_or (args_of c) k d).id.now ≡ name) (some : 0 < length name)
       (own : IsAuto (slice_index_or (args_of c) k d) → ⊥) where
@@ -108,14 +104,7 @@ module _ (c : Command) (m : ArgMatches) (p : IsParsedFrom c m) (app : app_of c �
       key_is = (bytes_eq-Decides e.0.now name).0 key
 
       no_group : e.1.is_group ≡ true → ⊥
-      no_group g = elim (pass.3 g) [
-        | inl empty ↦
-            let none : length name ≡ 0 = ap length (sym key_is ∙ empty) in
-            absurd (omega arith)
-        | inr lots ↦
-            let bad : 0 < 0 = rw no_groups at lots in
-            absurd (omega arith)
-      ]
+      no_group g = grind (arith, key_is, no_groups)
 
       in_bounds : (lo hi : ℕ) → (slice_index_or (args_of c) k d).value_parser ≡ Some (vp.Unsigned lo hi) → All (λ v. IsUnsignedIn lo hi v.now) e.1.vals.items
       in_bounds lo hi parser = elim pass.0 [
@@ -131,35 +120,11 @@ module _ (c : Command) (m : ArgMatches) (p : IsParsedFrom c m) (app : app_of c �
       -- an entry of an option that takes one value has one
       has_value : (slice_index_or (args_of c) k d).action ≡ Some Set → (slice_index_or (args_of c) k d).num_vals ≡ None
           → (slice_index_or (args_of c) k d).val_delim ≡ None → 0 < length e.1.vals.items
-      has_value set range delim = elim pass.1 [
-        | inl h ↦ absurd (no_group h.0)
-        | inr (inl v) ↦ v
-        | inr (inr (inl h)) ↦
-            let any = h.1 in
-            let s = rules_of_named any.0 any.1 any.2 any.3 (subst (λ (w : Text). bytes_eq any.1.id.now w ≡ true) key_is any.4.0) in
-            let is_set : any.1.action ≡ Some Set = s.action Set set in
-            let bad : Set ≡ Count = rw is_set at any.4.1 in
-            cc
-        | inr (inr (inr h)) ↦
-            let s = rules_of_named h.0 h.1 h.2 h.3 (subst (λ (w : Text). bytes_eq h.1.id.now w ≡ true) key_is h.4.0) in
-            elim h.4.1 [
-              | inl none ↦
-                  let one = s.least set (subst (λ (r : Option ValueRange). 1 ≤ (unwrap_or_range r).start_inclusive) (sym range) (omega arith)) in
-                  absurd (omega arith)
-              | inr has ↦
-                  let bad : false ≡ true = rw (s.val_delim, delim) at has in
-                  cc
-            ]
-      ]
+      has_value set range delim = grind (arith, no_group, rules_of_named, key_is)
 
   other_name : (t name : Text) → t ≡ name → bytes_eq name (codes "help") ≡ false → bytes_eq name (codes "version") ≡ false
       → (t ≡ codes "help") ⊎ (t ≡ codes "version") → ⊥
-  other_name t name is help version (inl h) =
-      let bad : bytes_eq name (codes "help") ≡ true = rw (sym is ∙ h) refl in
-      cc
-  other_name t name is help version (inr h) =
-      let bad : bytes_eq name (codes "version") ≡ true = rw (sym is ∙ h) refl in
-      cc
+  other_name t name is help version p = grind arith
 
   abbrev cuts_arg : Arg → Arg
   cuts_arg d = slice_index_or (args_of c) 1 d

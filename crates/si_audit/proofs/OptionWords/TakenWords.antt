@@ -1,12 +1,10 @@
 -- Words at which a command without subcommands finds no fault are taken.
-use Rattle.std.proofs.Common.{◌≡◌, ◌&&◌, ◌||◌, ℕ, Bool, true, false, not, zero, suc, refl, arith, List, [], ◌∷◌, Option, Some, None, is_some, nat_le, if◌then◌else◌, slice_get}
+use Rattle.std.proofs.Common.{◌≡◌, ◌&&◌, ℕ, Bool, true, false, not, zero, suc, refl, arith, List, [], ◌∷◌, Option, Some, None, is_some, nat_le, if◌then◌else◌, slice_get}
 use Rattle.std.specs.List.{list_all}
-use Rattle.std.specs.Option.{option_map_or}
 use Rattle.std.specs.Str.{chars}
 use Rattle.std.proofs.lemmas.Bool.{and_from, eqb-true, le-leb, ltb-false}
-use Rattle.clap.specs.Values.{refused_kind}
 use Rattle.clap.specs.ValueTests.{accepts}
-use Rattle.clap.specs.Walk.{Held, Names, Row, Rule, Step, Text, Waiting, Walk, attached_value, is_pending, reacted, settled, takes_several, takes_values, walked}
+use Rattle.clap.specs.Walk.{Held, Names, Row, Rule, Step, Text, Waiting, Walk, attached_value, reacted, takes_values, walked}
 use Rattle.clap.specs.Simple.{App, Shape, built, is_simple}
 use Rattle.clap.specs.Kinds.{Kinds, or_else, range_kinds, value_kinds, values_kinds}
 use Rattle.clap.specs.Faults.{action_fault, bundle_step_fault, fault_of, flag_word_fault, flags_fault, level_fault, long_fault, option_fault, other_fault, positional_fault, react_fault, settle_fault, short_fault, step_fault, stray_fault, turn_fault, use_fault, walk_fault, word_fault}
@@ -22,49 +20,28 @@ use Rattle.si_audit.specs.Words.{program}
 
 -- ---- kinds and tests
 
--- two steps have no kind, if neither has
-neither : (a b : Kinds) → or_else a b ≡ [] → (a ≡ []) × (b ≡ [])
-neither a b e = grind arith
-
--- a test that makes a kind has failed
-not_met : (b : Bool) (k : ErrorKind) (rest : Kinds) → (if b then k ∷ [] else rest) ≡ [] → (b ≡ false) × (rest ≡ [])
-not_met b k rest e = grind arith
-
--- a test without which there is a kind has passed
-met : (b : Bool) (k : ErrorKind) → (if b then [] else k ∷ []) ≡ [] → b ≡ true
-met b k e = grind arith
-
 -- ---- steps, if what has no kind passes
 
 both_taken : (a b : Kinds) (p q : Bool) → (a ≡ [] → p ≡ true) → (b ≡ [] → q ≡ true) → or_else a b ≡ [] → (p && q) ≡ true
-both_taken a b p q first second e = let parts = neither a b e in and_from p q (first parts.0) (second parts.1)
+both_taken a b p q first second e = grind arith
 
 if_taken : (b : Bool) (x y : Kinds) (p q : Bool) → (x ≡ [] → p ≡ true) → (y ≡ [] → q ≡ true) → (if b then x else y) ≡ [] → (if b then p else q) ≡ true
 if_taken b x y p q one other e = grind arith
 
-or_taken : (b : Bool) (y : Kinds) (q : Bool) → (y ≡ [] → q ≡ true) → (if b then [] else y) ≡ [] → (b || q) ≡ true
-or_taken b y q other e = grind arith
-
 unless_taken : (b : Bool) (k : ErrorKind) (y : Kinds) (q : Bool) → (y ≡ [] → q ≡ true) → (if b then k ∷ [] else y) ≡ [] → (not b && q) ≡ true
 unless_taken b k y q other e = grind arith
-
-spared : (b d : Bool) (k : ErrorKind) (ks : Kinds) → (if b && not d then k ∷ ks else []) ≡ [] → (not b || d) ≡ true
-spared b d k ks e = grind arith
-
-map_taken : {A : Type 0} (f : A → Kinds) (p : A → Bool) (x : Kinds) (q : Bool) → ((a : A) → f a ≡ [] → p a ≡ true) → (x ≡ [] → q ≡ true) → (o : Option A) → option_map_or f o x ≡ [] → option_map_or p o q ≡ true
-map_taken f p x q each none o e = grind arith
 
 -- ---- values
 
 value_taken : (i : Bool) (p : ValueParser) (t : Text) → value_kinds i p t ≡ [] → accepts i p t ≡ true
-value_taken i p t e = met (accepts i p t) (refused_kind p) e
+value_taken i p t e = grind arith
 
 values_taken : (i : Bool) (p : ValueParser) (ts : List Text) → values_kinds i p ts ≡ [] → list_all (accepts i p) ts ≡ true
 values_taken i p [] e = refl
 values_taken i p (t ∷ ts) e = both_taken (value_kinds i p t) (values_kinds i p ts) _ _ (value_taken i p t) (values_taken i p ts) e
 
 range_taken : (least most n : ℕ) → range_kinds least most n ≡ [] → (nat_le least n ≡ true) × (nat_le n most ≡ true)
-range_taken least most n e = grind (arith, not_met, eqb-true, met, le-leb, ltb-false)
+range_taken least most n e = grind (arith, eqb-true, le-leb, ltb-false)
 
 -- ---- one use of an argument
 
@@ -72,14 +49,14 @@ action_taken : (x : ArgAction) (again : Bool) (a : Rule) (values : List Text) (r
 action_taken x again a values rows e = grind (arith, values_taken, value_taken)
 
 use_taken : (again : Bool) (a : Rule) (values : List Text) (rows : List Row) → use_fault again a values rows ≡ [] → use_passes again a values rows ≡ true
-use_taken again a values rows e = grind (arith, neither, range_taken, and_from, action_taken)
+use_taken again a values rows e = grind (arith, range_taken, and_from, action_taken)
 
 module _ (c : List Rule) (again : Bool) where
   settle_taken : (h : Held) → settle_fault c again h ≡ [] → settle_passes c again h ≡ true
-  settle_taken h e = grind (arith, map_taken, use_taken)
+  settle_taken h e = grind (arith, use_taken)
 
   react_taken : (a : Rule) (values : List Text) (h : Held) → react_fault c again a values h ≡ [] → react_passes c again a values h ≡ true
-  react_taken a values h e = both_taken (settle_fault c again h) (use_fault again a values (settled c h).rows) _ _ (settle_taken h) (use_taken again a values (settled c h).rows) e
+  react_taken a values h e = grind (arith, settle_taken, use_taken)
 
   option_taken : (a : Rule) (v : Option Text) (h : Held) → option_fault c again a v h ≡ [] → option_passes c again a v h ≡ true
   option_taken a None h e = settle_taken h e
@@ -110,29 +87,29 @@ module _ (c : List Rule) (again : Bool) where
       bundle_step_taken (slice_get (chars flags) 0) flags skip h (flags_fault c again k) (flags_pass c again k) (flags_taken k) e
 
   flag_word_taken : (o : Option (Text × Option Text)) (word : Text) (h : Held) → flag_word_fault c again o word h ≡ [] → flag_word_passes c again o word h ≡ true
-  flag_word_taken o word h e = grind (arith, long_taken, map_taken, flags_taken)
+  flag_word_taken o word h e = grind (arith, long_taken, flags_taken)
 
   positional_taken : (a : Rule) (h : Held) → positional_fault c again a h ≡ [] → positional_passes c again a h ≡ true
-  positional_taken a h e = or_taken (is_pending a h.pending && takes_several a) (settle_fault c again h) (settle_passes c again h) (settle_taken h) e
+  positional_taken a h e = grind (arith, settle_taken)
 
 -- ---- the walk
 
 stray_refused : (s : Shape) → stray_fault s ≡ [] → ⊥
-stray_refused s e = let rest = not_met s.is_leaf kind.UnknownArgument (kind.UnknownArgument ∷ kind.InvalidSubcommand ∷ []) e in cc
+stray_refused s e = grind arith
 
 module _ (s : Shape) where
   other_taken : (o : Option Text) (word : Text) (h : Held) → other_fault s o word h ≡ [] → other_passes s o word h ≡ true
-  other_taken o word h e = grind (arith, spared, or_taken, flag_word_taken)
+  other_taken o word h e = grind (arith, flag_word_taken)
 
   step_taken : (position : ℕ) (h : Held) (x : Step) → step_fault s position h x ≡ [] → step_passes s position h x ≡ true
-  step_taken position h x e = grind (arith, map_taken, positional_taken, stray_refused)
+  step_taken position h x e = grind (arith, positional_taken, stray_refused)
 
   word_taken : (names : Names) (is_trailing : Bool) (waiting : Waiting) (word : Text) (h : Held)
       → word_fault s names is_trailing waiting word h ≡ [] → word_passes s names is_trailing waiting word h ≡ true
-  word_taken names is_trailing waiting word h e = grind (arith, or_taken, other_taken)
+  word_taken names is_trailing waiting word h e = grind (arith, other_taken)
 
   turn_taken : (names : Names) (w : Walk) (word : Text) → turn_fault s names w word ≡ [] → turn_passes s names w word ≡ true
-  turn_taken names w word e = grind (arith, or_taken, both_taken, word_taken, step_taken)
+  turn_taken names w word e = grind (arith, word_taken, step_taken)
 
   walk_taken : (names : Names) (w : Walk) (words : List Text) → walk_fault s names w words ≡ [] → walk_passes s names w words ≡ true
   unfolding walk_fault walk_passes
@@ -142,7 +119,7 @@ module _ (s : Shape) where
   -- where each default passes and nothing more is asked of the matches
   level_taken : (h : Held) (words : List Text) → list_all default_passes s.rules ≡ true → ((rows : List Row) → is_valid s rows false ≡ true)
       → level_fault s [] h words false [] ≡ [] → level_passes s [] h words false ≡ true
-  level_taken h words defaults valid e = grind (arith, neither, and_from, walk_taken, settle_taken)
+  level_taken h words defaults valid e = grind (arith, and_from, walk_taken, settle_taken)
 
 -- a simple command without subcommands takes the words at which it finds no fault
 pub no_fault_taken : (a : App) (words : List Text) → is_simple a ≡ true → (built a).subs ≡ [] → list_all default_passes (built a).top.rules ≡ true

@@ -8,12 +8,11 @@ use Rattle.sia_events.specs.Refusals.{IsWellFormed}
 use Rattle.sia_events.specs.Transactions.{HasEvent}
 use Rattle.sia_index.proofs.Shared.LogNames.{numbered_has_event, txns_stand_once}
 use Rattle.si_audit.specs.Bounds.{EachTxn, IsKnownOf, IsKnownTo, IsBound, IsFirstSoFar, IsLow, IsSoFar, Sees}
-use Rattle.si_audit.specs.Snapshots.{FitsStart, IsSnapshot, Bars, IsAsked, IsInNone, AccessesAt, IsFirst, ReadAsks}
+use Rattle.si_audit.specs.Snapshots.{FitsStart, IsSnapshot, Bars, IsAsked, IsInNone, AccessesAt, ReadAsks}
 use Rattle.si_audit.specs.declared.snapshots.Bounds.{Bounds}
 use Rattle.si_audit.proofs.Shared.SnapshotBounds.{access_within, idle_fits, fits_start, start_before, fits_bounds}
 use Rattle.sia_events.proofs.Writing.WellFormed.{few_events}
 use Rattle.si_audit.specs.SnapshotLines.{AreSnapshots, IsExcluded, IsLatest, IsNeeded}
-use Rattle.std.specs.Prelude.{MatchOption}
 use Rattle.std.proofs.lemmas.List.{get_or-set_other, get_or-set_same, length-set}
 use Rattle.sia_index.proofs.Shared.NumberedNames.{same_some}
 use Rattle.sia_events.specs.Events.{actor}
@@ -68,8 +67,7 @@ module _ (h : List Event) (wf : IsWellFormed h) (t : ℕ) (b : Bounds) (known : 
       (λ fits.
           let bounded = (fits_bounds h wf t n).0 fits.1 in
           let early : n < b.first = fits.0 b.first (known.first misfit).0 in
-          let few : b.first ≤ 500000000 = first_within.1 in
-          (low_least n bounded.low, high_above n (omega arith) bounded.high, early)),
+          grind (arith, first_within, low_least, high_above)),
       (λ within.
           let least : b.low.commit ≤ n = within.0 in
           let below : n < b.high.commit = within.1 in
@@ -189,10 +187,7 @@ module _ (h : List Event) (wf : IsWellFormed h) (t : ℕ) where
   pub known_more : (p : ℕ) (old mid : Bounds) (g : ℕ) → AccessesAt h t p → Sees h t p 0 (p + 1) 0 old mid → (mid.first ≡ 0 → g ≡ p) → (0 < mid.first → g ≡ mid.first) → IsKnownTo h t p old
       → IsKnownTo h t (p + 1) (record { misfit = mid.misfit; never = mid.never; low = mid.low; high = mid.high; first = g })
   known_more p old mid g here sees zero more is = record {
-    marked = record {
-      misfit = subst (λ x. IsTrue x ↔ (¬ FitsStart h t)) (sym sees.misfit) is.marked.misfit;
-      never = subst (λ x. MatchOption x ((q k : ℕ) → ¬ IsInNone h t q k) (λ at. IsFirst (IsInNone h t) at.0 at.1)) (sym sees.never) is.marked.never;
-    };
+    marked = grind arith;
     reads = λ bad. (let are = sees.bounds (is.reads (subst IsTrue sees.misfit bad)) in record { low = are.low; high = are.high });
     first = λ bad. first_at p old.first g here (is.first (subst IsTrue sees.misfit bad)) (λ none. zero (sees.first ∙ none)) (λ some. (let same = sees.first in more (omega arith) ∙ same));
   }

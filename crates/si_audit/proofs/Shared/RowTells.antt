@@ -66,8 +66,7 @@ module _ (h : List Event) (wf : IsWellFormed h) (keys : List ℕ) (are : AreWrit
       | inl less ↦
           let up = bounds_in_order h wf p t lo hi (map (pair_at (names_of h)) listed) at in
           let under = point_below (λ (k : ℕ). k) keys lo first low end 0 (omega arith) less in
-          let over = high.behind end (omega arith) (omega arith) in
-          absurd (omega arith)
+          grind arith
       | inr le ↦ le
     ];
   }

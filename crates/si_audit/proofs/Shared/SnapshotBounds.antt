@@ -52,8 +52,7 @@ module _ (h : List Event) (wf : IsWellFormed h) (t n : ℕ) where
         of_due (inl own) = absurd (asks.2 own.1)
         of_due (inr (out, inl newest)) =
             let same : c ≡ newest.0 = one_commit h wf asks.0 c newest.0 asks.3 newest.1.1 in
-            let within : newest.0 ≤ n = newest.2 in
-            omega arith
+            grind arith
         of_due (inr (out, inr none)) = absurd (zero_commits_not h wf c (subst (λ v. CommitsAt h v c) none.1 asks.3))
 
     fit_low : (c : ℕ) → IsAsked h t c → c ≤ n
@@ -157,8 +156,7 @@ module _ (h : List Event) (wf : IsWellFormed h) (t : ℕ) where
     seen : (k u : ℕ) (visible : IsVisible h t k u) → visible.1.1 ≤ s
     seen k u visible =
         let same : visible.1.0 ≡ s = one_start h t visible.1.0 s visible.1.2 starts in
-        let within : visible.1.1 ≤ visible.1.0 = visible.1.4 in
-        omega arith
+        grind arith
 
     -- and the other way round
     from_due : (p k v : ℕ) → IsDueFrom h s t p k v → IsDue h t p k v

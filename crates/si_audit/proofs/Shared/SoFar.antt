@@ -1,5 +1,5 @@
 -- What reads of more keys do to the bounds that the reads before them gave.
-use Rattle.std.proofs.Common.{◌≡◌, ◌≢◌, ◌⊎◌, inl, inr, ℕ, ◌+◌, ◌<◌, ◌≤◌, List, refl, sym, subst, ◌∙◌, arith, slice_index, ◌↔◌, suc, ◌-◌, length, Option, Some, None, ap, MatchOption}
+use Rattle.std.proofs.Common.{◌≡◌, ◌≢◌, ◌⊎◌, inl, inr, ℕ, ◌+◌, ◌<◌, ◌≤◌, List, refl, sym, subst, ◌∙◌, arith, ◌↔◌, suc, ◌-◌, length, Option, Some, None, ap, MatchOption}
 use Rattle.std.proofs.lemmas.Bool.{cases_lt}
 use Rattle.sia_events.specs.declared.event.Event.{Event}
 use Rattle.sia_events.specs.declared.event.Event.TheVariants.{Commit, Write}
@@ -45,10 +45,7 @@ module _ (h : List Event) (p : ℕ) where
   key_less : (i j x y : ℕ) → IsKeyAt h i x → IsKeyAt h j y → i < j → x < y
   key_less i j x y at other less =
       let there = key_number h at.0 at.1 j y other in
-      let rise : slice_index at.0 i < slice_index at.0 j = ascends (λ (k : ℕ). k) (λ k. (t : ℕ) × Wrote h t k) at.0 at.1 i j 0 less there.0 in
-      let first : slice_index at.0 i ≡ x = at.3 in
-      let second : slice_index at.0 j ≡ y = there.1 in
-      omega arith
+      grind (arith, ascends)
 
   behind : (m q r i j k : ℕ) → r ≡ p → m ≤ i → IsSoFar h p m q j → IsKeyAt h i k → (q < r) ⊎ ((q ≡ r) × (j ≤ k))
   behind m q r i j k here most (inl less) at = inl (omega arith)
@@ -297,9 +294,7 @@ module _ (h : List Event) (wf : IsWellFormed h) (t : ℕ) where
           | inr here ↦ absurd
               (let i = inside k v u (subst (λ x. SawAt h x t k v) here.0 saw) wrote in
               let same = one_key_number h i.0 here.1 k i.1 here.2 in
-              let from = i.2 in
-              let under = here.3 in
-              omega arith)
+              grind arith)
         ]),
       )
 
@@ -351,8 +346,7 @@ module _ (h : List Event) (wf : IsWellFormed h) (t k write : ℕ) where
         | inl zero ↦
             let wrote = write_wrote h write some bound in
             let positive = (actor_is_txn h wf (write_at (names_of h) (write - 1)).1 wrote.0 (Write (write_at (names_of h) (write - 1)).1 (write_at (names_of h) (write - 1)).0, wrote.1, refl)).0 in
-            let begin = zero.0 in
-            omega arith
+            grind arith
         | inr commits ↦ none (c, subst (λ u. CommitsAt h u c) (sym same) commits)
       ]
       of_position same (Some q) at =

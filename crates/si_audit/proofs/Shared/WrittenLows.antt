@@ -33,16 +33,7 @@ IsBefore h v n q = (w : KeyVersion) × IsAtPosition h q w × (w.key ≡ v.key) �
 pub found_at : (ids : List ℕ) → AllPairs (λ x y. x < y) ids → (from t at : ℕ) → from ≡ t → IsPartitionPoint (λ x. ltb x from ≡ true) (λ x. ltb x from ≡ false) ids at → Contains ids t → (at < length ids) × (slice_index ids at ≡ t)
 found_at ids up from t at same point (k, below, here) =
     let it : get_or ids k 0 ≡ t = get_or_default ids k 0 t below ∙ here in
-    elim (cases_lt k at) [
-      | inl less ↦ let under = ltb-true (get_or ids k 0) from (point.0 k 0 (omega arith) less) in absurd (omega arith)
-      | inr more ↦
-          let within : at < length ids = omega arith in
-          let over = ltb-false (get_or ids at 0) from (point.1 at 0 (omega arith) within) in
-          elim (cases_lt at k) [
-            | inl before ↦ let less : get_or ids at 0 < get_or ids k 0 = up at k 0 before below in absurd (omega arith)
-            | inr behind ↦ let one : k ≡ at = omega arith in (within, subst (λ n. get_or ids n 0 ≡ t) one it)
-          ]
-    ]
+    grind (arith, cases_lt, ltb-true, ltb-false)
 
 -- a look-up finds what committed
 pub committed_there : (h : List Event) (t : ℕ) (o : Option Lifetime) (none : Bool) → is_some o ≡ not none → none ≡ false → MatchOption o (¬ IsCommitted h t) (IsLifetime h t) → IsCommitted h t
@@ -111,13 +102,7 @@ module _ (h : List Event) (wf : IsWellFormed h) (t : ℕ) (qs : List ℕ) (are :
       let one : next.0 ≡ d = one_commit h wf t next.0 d next.1.1 commits in
       let earliest : is.2 ≤ p = first.1 p wrote in
       let latest : c ≤ is.1 = elim (cases_lt is.1 c) [ inl later ↦ (let behind : next.0 ≤ c = next.3 u c other later in absurd (omega arith)) | inr le ↦ le ] in
-      elim is.6 [
-        | inl under ↦ inl (omega arith)
-        | inr equal ↦
-            let e : is.1 ≡ low.commit = equal.0 in
-            let f : low.place ≤ is.2 = equal.1 in
-            elim (cases_lt c low.commit) [ inl under ↦ inl under | inr behind ↦ inr (omega arith, omega arith) ]
-      ]
+      grind (arith, cases_lt)
 
   one_key : (p k q j : ℕ) → p ≡ q → WritesAt h t k p → WritesAt h t j q → k ≡ j
   one_key p k q j same at other = let there : at_place h p ≡ Some (Write t j) = subst (λ n. at_place h n ≡ Some (Write t j)) (sym same) other in let e : Some (Write t k) ≡ Some (Write t j) = sym at ∙ there in cc
@@ -129,14 +114,7 @@ module _ (h : List Event) (wf : IsWellFormed h) (t : ℕ) (qs : List ℕ) (are :
       most.some some,
       λ q j ask. elim (up_to low.commit q j ask) [
         | inl under ↦ absurd (omega arith)
-        | inr equal ↦ elim (cases_lt low.place q) [
-          | inl before ↦ inl before
-          | inr behind ↦
-              let least : low.place ≤ q = equal.1 in
-              let same : low.place ≡ q = omega arith in
-              let key : low.key ≡ j = one_key low.place low.key q j same (most.some some).0 ask.0 in
-              inr (same, omega arith)
-        ]
+        | inr equal ↦ grind (arith, cases_lt, one_key)
       ],
     );
   }
@@ -166,8 +144,7 @@ module _ (h : List Event) (wf : IsWellFormed h) (t : ℕ) (reads writes : Bound)
       none_asked c p k zero none (inl ask) = none c p k ask
       none_asked c p k zero none (inr ask) =
           let least : c ≤ writes.commit = written.each c p k ask in
-          let some : 0 < c = commit_positive h wf ask.1 c ask.3.1 in
-          omega arith
+          grind (arith, commit_positive)
 
   pub low_of_writes : reads.commit < writes.commit → IsLow h t writes
   low_of_writes more =
