@@ -1,4 +1,3 @@
 pub mod Collected
-pub mod DealtWrites
 pub mod KnownTxns
 pub mod PlacesOf

@@ -1,13 +1,11 @@
 -- The rows of an index's tables: what each says of a history, and the order that they stand in.
-use Rattle.std.specs.Prelude.{◌≡◌, ◌↔◌, ◌<◌, ◌≤◌, ℕ, Option, Some, MatchOption, List, [], ◌∷◌, All, AllPairs, Contains, length, slice_get, slice_index_or}
-use Rattle.std.specs.List.Sorted.{IsNonDecreasingBy}
+use Rattle.std.specs.Prelude.{◌≡◌, ◌<◌, ◌≤◌, ℕ, Option, Some, MatchOption, List, [], ◌∷◌, All, AllPairs, Contains, length, slice_get, slice_index_or}
 use Rattle.sia_events.specs.declared.event.Event.{Event}
 use Rattle.sia_events.specs.Lists.{ListsBy}
-use Rattle.sia_events.specs.Transactions.{WritesAt, Wrote}
+use Rattle.sia_events.specs.Transactions.{Wrote}
 use Rattle.sia_index.specs.declared.info.Made.{Made}
 use Rattle.sia_index.specs.declared.info.KeyVersion.{KeyVersion}
 use Rattle.sia_index.specs.declared.names.Numbered.{Numbered}
-use Rattle.sia_index.specs.declared.txns.WriteRow.{WriteRow}
 
 -- no number from lo to hi has P, or none below the one that was found
 abbrev pub PassesNone : (ℕ → Type 0) → ℕ → ℕ → Option ℕ → Type 0
@@ -28,12 +26,6 @@ AreNumbered K names rows = ListsBy (λ row. row.name ∷ row.number ∷ []) (λ 
 -- some write event names k
 abbrev pub IsWritten : List Event → ℕ → Type 0
 IsWritten h k = (t : ℕ) × Wrote h t k
-
--- the writes of t, whose number is n, by key and then by place
-pub record AreWritesOf (h : List Event) (t n : ℕ) (rows : List WriteRow) : Type 0 where
-  pub keys_rise : IsNonDecreasingBy (λ row. row.key) rows
-  pub places_rise : AllPairs (λ x y. x.key ≡ y.key → x.place ≤ y.place) rows
-  pub each : (row : WriteRow) → Contains rows row ↔ (WritesAt h t row.key row.place × (row.txn ≡ n))
 
 -- of the versions of all keys those of k stand from one place to below another, version 0 first
 pub record IsKeyStretch (versions : List KeyVersion) (k from to : ℕ) : Type 0 where

@@ -1,23 +1,23 @@
 -- What the tables of an index hold of its history.
-use Rattle.std.specs.Prelude.{◌≡◌, ◌<◌, ◌≤◌, ℕ, All, Some, List, [], length, slice_get, slice_index, slice_index_or}
+use Rattle.std.specs.Prelude.{◌≡◌, ◌<◌, ◌≤◌, ℕ, All, AllPairs, Some, List, [], ◌∷◌, length, slice_get, slice_index, slice_index_or}
 use Rattle.sia_events.specs.declared.event.Event.{Event}
 use Rattle.sia_events.specs.declared.log.TxnRow.{TxnRow}
 use Rattle.sia_events.specs.Finding.{Finds}
-use Rattle.sia_events.specs.Lists.{ListsAscending}
+use Rattle.sia_events.specs.Lists.{ListsAscending, Precedes}
 use Rattle.sia_events.specs.LogTables.{Lives, txn_names}
-use Rattle.sia_events.specs.Numbering.{txns_of, keys_of}
+use Rattle.sia_events.specs.Numbering.{names_of, txns_of, keys_of, write_at, writes_of}
 use Rattle.sia_events.specs.Refusals.{IsWellFormed}
-use Rattle.sia_events.specs.Transactions.{IsCommitted}
+use Rattle.sia_events.specs.Transactions.{IsCommitted, WritesAt}
 use Rattle.sia_index.specs.Lifetimes.{AreLifetimes}
 use Rattle.sia_index.specs.Lists.{joined}
 use Rattle.sia_index.specs.Minima.{AreMinima}
-use Rattle.sia_index.specs.Rows.{AreWritesOf, IsColumn, IsWritten}
+use Rattle.sia_index.specs.Rows.{IsColumn, IsWritten}
 use Rattle.sia_index.specs.VersionRows.{AreFirsts, AreRowsByPosition, AreWritesAt, commit_behind, made_row}
 use Rattle.sia_index.specs.declared.versions.VersionRow.{VersionRow}
 use Rattle.sia_index.specs.declared.names.Keys.{Keys}
 use Rattle.sia_index.specs.declared.txns.Txns.{Txns}
 use Rattle.sia_index.specs.declared.versions.Versions.{Versions}
-use Rattle.sia_index.specs.declared.txns.Writes.{Writes}
+use Rattle.sia_index.specs.declared.writes.Writes.{Writes}
 
 -- for each number below the count the place of the row that has it, or one behind all rows
 pub record ArePlaces {A : Type 0} (number : A → ℕ) (rows : List A) (count : ℕ) (places : List ℕ) : Type 0 where
@@ -66,15 +66,23 @@ pub record AreVersionTables (h : List Event) (committed keys : List ℕ) (v : Ve
   pub first_commits_are : IsColumn (commit_behind v.made.items) v.firsts.items (length v.firsts.items) v.first_commits.items
   pub minima_are : AreMinima (λ place. place) v.first_commits.items v.minima.items
 
--- the writes of each transaction by its number in the log, and the least places of all
-pub record AreWriteTables (h : List Event) (w : Writes) : Type 0 where
-  pub count : length w.by_txn ≡ length (txns_of h)
-  pub each : (i : ℕ) → i < length (txns_of h) → AreWritesOf h (slice_index (txns_of h) i) i (slice_index_or w.by_txn i [])
-  pub minima_are : AreMinima (λ row. row.place) (joined w.by_txn) w.minima.items
+-- the place of each write, of those behind place n
+pub record AreWritePlaces (h : List Event) (n : ℕ) (places : List ℕ) : Type 0 where
+  pub long : length places ≡ length (writes_of h)
+  pub each : (w k t p : ℕ) → slice_get (writes_of h) w ≡ Some (k, t) → WritesAt h t k p → n < p → WritesAt h t k (slice_index places w) × (slice_index places w ≤ p)
+
+-- the writes of each key, of each transaction the places of its own among them, and where each stands in the history
+pub record AreWriteTables (h : List Event) (keys : List ℕ) (w : Writes) : Type 0 where
+  pub key_count : length w.by_key ≡ length keys
+  pub by_key : (i : ℕ) → i < length keys → ListsAscending (λ n. (t : ℕ) × (slice_get (writes_of h) n ≡ Some (slice_index keys i, t))) (slice_index_or w.by_key i [])
+  pub rise : AllPairs (λ m n. Precedes ((write_at (names_of h) m).0 ∷ m ∷ []) ((write_at (names_of h) n).0 ∷ n ∷ [])) (joined w.by_key)
+  pub txn_count : length w.by_txn ≡ length (txns_of h)
+  pub by_txn : (d : ℕ) → d < length (txns_of h) → ListsAscending (λ p. (n k : ℕ) × (slice_get (joined w.by_key) p ≡ Some n) × (slice_get (writes_of h) n ≡ Some (k, slice_index (txns_of h) d))) (slice_index_or w.by_txn d [])
+  pub places : AreWritePlaces h 0 w.places.items
 
 pub record AreTables (h : List Event) (t : Txns) (k : Keys) (v : Versions) (w : Writes) : Type 0 where
   pub well_formed : IsWellFormed h
   pub txns_are : AreTxns h t
   pub keys_are : AreKeys h k
   pub versions_are : AreVersionTables h t.committed.items k.keys.items v
-  pub writes_are : AreWriteTables h w
+  pub writes_are : AreWriteTables h k.keys.items w

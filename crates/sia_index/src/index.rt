@@ -16,12 +16,12 @@ ghost use Rattle.sia_events.specs.Reads.{IsDue};
 ghost use Rattle.sia_index.specs.Counting.{AreCounts};
 
 use crate::info::{Counts, Fate, Lifetime, Made, Reader, TxnInfo, overlap};
-use crate::keyed::{ByKey, ByPlace, find, place_above, place_from};
+use crate::keyed::{ByKey, ByPlace, between, find, place_above, place_from};
 use crate::lists::end_at;
-use crate::minima::next_below;
 use crate::names::Keys;
-use crate::txns::{Txns, WriteRow, Writes};
+use crate::txns::Txns;
 use crate::versions::Versions;
+use crate::writes::Writes;
 use sia_events::{Key, Log, TxnEnd, TxnId, Version};
 use std::marker::Model;
 use std::snapshot::Snapshot;
@@ -178,12 +178,17 @@ impl Index {
         requires { slice_get (txns_of self.now) txn ≡ Some t }
         ensures { MatchOption result (¬ Wrote self.now t k) (IsFirstWrite self.now t k) }
     {
+        let (from, to) = self
+            .writes
+            .by_key
+            .span(find::<Key, ByKey>(&self.keys.keys, k)?);
         let own = self.writes.by_txn.at(txn as usize);
-        let row = own.get(place_from::<WriteRow, ByKey>(own, k))?;
-        if row.key != k {
+        let at = *own.get(place_from::<u32, ByPlace>(own, from as u64))? as usize;
+        if at >= to {
             return None;
         }
-        Some(row.place)
+        let write = self.writes.by_key.rows()[at];
+        Some(self.writes.places[write as usize])
     }
 }
 
@@ -236,9 +241,6 @@ impl Index {
         requires { IsReader self.now reader.txn reader.place reader }
         ensures { IsTrue result ↔ WroteBefore self.now reader.txn k reader.place }
     {
-        if !reader.has_written {
-            return false;
-        }
         let first = self.first_write_at(reader.txn, reader.number, k);
         first.is_some_and(|first| first < reader.place)
     }
@@ -248,16 +250,12 @@ impl Index {
         requires { IsReader self.now reader.txn reader.place reader }
         ensures { PassesNone (λ k. WroteBefore self.now reader.txn k reader.place) lo hi result }
     {
-        if !reader.has_written {
-            return None;
+        for k in between::<Key, ByKey>(&self.keys.keys, lo, hi) {
+            if self.wrote_before(reader, *k) {
+                return Some(*k);
+            }
         }
-        let rows = self.writes.by_txn.rows();
-        let (from, to) = self.writes.by_txn.span(reader.number as usize);
-        let first = from + place_from::<WriteRow, ByKey>(&rows[from..to], lo);
-        let last = from + place_above::<WriteRow, ByKey>(&rows[from..to], hi);
-        let place = u64::from(reader.place);
-        let next = next_below::<WriteRow, ByPlace>(rows, &self.writes.minima, first, last, place)?;
-        Some(rows[next].key)
+        None
     }
 }
 

@@ -12,6 +12,7 @@ pub mod ordering;
 mod positions;
 mod txns;
 mod versions;
+mod writes;
 
 pub use index::{Index, counted};
 pub use info::{Counts, Fate, KeyVersion, Lifetime, Made, Reader, TxnInfo, WriteAt, overlap};

@@ -3,8 +3,9 @@ ghost use Rattle.std.specs.Prelude.{◌≡◌, IfOk};
 
 use crate::index::Index;
 use crate::names::keys_of;
-use crate::txns::{txns_of, writes_of};
+use crate::txns::txns_of;
 use crate::versions::versions_of;
+use crate::writes::writes_of;
 use sia_events::{History, Log, NoMemory};
 use std::alloc::Global;
 use std::snapshot::Snapshot;
@@ -21,10 +22,10 @@ pub fn index_log(alloc: Global, log: &Log) -> Result<Index, NoMemory>
     ensures { IfOk result (λ ix. ix ≡ log.now) }
 {
     log.law();
-    let writes = writes_of(alloc, log)?;
     let txns = txns_of(alloc, log)?;
     let keys = keys_of(alloc, log)?;
-    let versions = versions_of(alloc, log, &txns, &keys)?;
+    let (written, writes) = writes_of(alloc, log, &keys)?;
+    let versions = versions_of(alloc, log, &txns, &keys, &writes, written)?;
     Ok(Index {
         of: Snapshot::of(log),
         txns,

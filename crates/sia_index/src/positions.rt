@@ -13,7 +13,7 @@ use crate::index::Index;
 use crate::info::{Made, WriteAt};
 use crate::keyed::{ByPlace, place_above};
 use crate::minima::next_below;
-use crate::versions::Written;
+use crate::writes::Written;
 
 impl Index {
     /// The number of the log's key among the written ones, if it is written.

@@ -1,17 +1,14 @@
-//! The tables of transactions and of write events.
+//! The tables of transactions.
 ghost use Rattle.std.specs.Prelude.{◌≡◌, All, IfOk, Some, map, slice_get};
 ghost use Rattle.sia_events.specs.Lists.{ListsAscending};
 ghost use Rattle.sia_events.specs.Numbering.{txns_of};
 ghost use Rattle.sia_events.specs.Transactions.{HasEvent};
-ghost use Rattle.sia_index.specs.Tables.{AreTxns, AreWriteTables};
+ghost use Rattle.sia_index.specs.Tables.{AreTxns};
 
 use crate::info::Lifetime;
-use crate::keyed::{By, ByKey, ByPlace, ByTxn};
-use crate::lists::Lists;
-use crate::minima::minima_of;
 use crate::names::{ByName, Numbered, places_of};
 use crate::ordering::Sorter;
-use sia_events::{Finder, IN_ORDER, Key, Log, Row, TxnEnd, TxnId, TxnRow};
+use sia_events::{Finder, IN_ORDER, Log, TxnEnd, TxnId, TxnRow};
 use std::alloc::{AllocError, Global};
 
 /// What is known of each transaction, by its number in the log, with what finds that number by name. Every committed one once,
@@ -78,62 +75,4 @@ pub fn txns_in_order(alloc: Global, log: &Log) -> Result<Vec<Numbered<TxnId>>, A
     }
     Sorter::with_capacity(alloc, rows.len())?.sort::<ByName>(&mut rows);
     Ok(rows)
-}
-
-/// A write event: its key, its place, and the number of its transaction in the log.
-#[derive(Clone, Copy, PartialEq, Eq, PartialOrd, Ord)]
-pub struct WriteRow {
-    pub key: Key,
-    pub place: u32,
-    pub txn: u32,
-}
-
-impl By<WriteRow> for ByKey {
-    ghost by = { λ row. row.key };
-
-    fn number(row: &WriteRow) -> u64 {
-        row.key
-    }
-}
-
-impl By<WriteRow> for ByTxn {
-    ghost by = { λ row. row.txn };
-
-    fn number(row: &WriteRow) -> u64 {
-        u64::from(row.txn)
-    }
-}
-
-impl By<WriteRow> for ByPlace {
-    ghost by = { λ row. row.place };
-
-    fn number(row: &WriteRow) -> u64 {
-        u64::from(row.place)
-    }
-}
-
-/// The write events of each transaction, by its number, and the least places of all in a row.
-#[derive(Drop)]
-pub struct Writes {
-    pub by_txn: Lists<WriteRow>,
-    pub minima: Vec<u64>,
-}
-
-/// The writes of the log.
-pub fn writes_of(alloc: Global, log: &Log) -> Result<Writes, AllocError>
-    ensures { IfOk result (AreWriteTables log.now) }
-{
-    let mut rows = Vec::with_capacity(alloc, log.len() as usize)?;
-    for before in 0..log.len() {
-        let place = before + 1;
-        let Some(Row::Write { txn, key, .. }) = log.row(place) else {
-            continue
-        };
-        let key = log.key(key);
-        rows.push(WriteRow { key, place, txn })?;
-    }
-    let mut by_txn = Lists::deal::<ByTxn>(alloc, log.txn_count() as usize, &rows)?;
-    by_txn.sort();
-    let minima = minima_of::<WriteRow, ByPlace>(alloc, by_txn.rows())?;
-    Ok(Writes { by_txn, minima })
 }

@@ -1,27 +1,31 @@
--- The rows of one transaction's writes, and what stands among them.
-use Rattle.std.proofs.Common.{slice_get, ◌≡◌, ◌≢◌, ℕ, ◌+◌, ◌-◌, ◌<◌, ◌≤◌, List, [], length, Some, None, inl, inr, ap, sym, subst, refl, ◌∙◌, arith}
-use Rattle.std.specs.List.{AllWithin}
-use Rattle.std.specs.Prelude.{slice_index_or, slice_range}
+-- The row of a transaction, and its first writes by key.
+use Rattle.std.proofs.Common.{slice_get, ◌≡◌, ℕ, ◌<◌, ◌≤◌, List, [], ◌∷◌, length, Some, inl, inr, ap, sym, subst, ◌∙◌, arith}
+use Rattle.std.specs.Prelude.{Contains, slice_index, slice_index_or, slice_range}
 use Rattle.std.proofs.lemmas.Bool.{cases_lt}
 use Rattle.std.proofs.lemmas.List.{get_or-map, get_or_default, length-map}
-use Rattle.std.proofs.lemmas.List.Edits.{length-between, get_or-between}
 use Rattle.std.proofs.lemmas.List.Elements.{Contains-get_or}
-use Rattle.std.proofs.lemmas.Option.{get_or_from_slice_get, slice_get_within}
+use Rattle.std.proofs.lemmas.Option.{get_or_from_slice_get, slice_get-get_or, slice_get_within}
 use Rattle.sia_events.specs.declared.event.Event.{Event}
+use Rattle.sia_events.specs.declared.event.Event.TheVariants.{Write}
 use Rattle.sia_events.specs.declared.log.TxnRow.{TxnRow}
+use Rattle.sia_events.specs.Lists.{ListsAscending, Precedes}
 use Rattle.sia_events.specs.LogTables.{Lives, txn_names}
-use Rattle.sia_events.specs.Numbering.{Ends, txns_of}
-use Rattle.sia_events.specs.Transactions.{StartsAt, WritesAt, Wrote, WroteBefore}
+use Rattle.sia_events.specs.Numbering.{Ends, names_of, txns_of, write_at, writes_of}
+use Rattle.sia_events.specs.Transactions.{StartsAt, Wrote}
+use Rattle.sia_events.proofs.Shared.TransactionDecisions.{place_within}
 use Rattle.sia_index.specs.declared.names.Keys.{Keys}
 use Rattle.sia_index.specs.declared.txns.Txns.{Txns}
-use Rattle.sia_index.specs.declared.txns.WriteRow.{WriteRow}
-use Rattle.sia_index.specs.declared.txns.Writes.{Writes}
+use Rattle.sia_index.specs.declared.writes.Writes.{Writes}
 use Rattle.sia_index.specs.declared.versions.Versions.{Versions}
-use Rattle.sia_index.specs.Info.{IsFirstWrite}
-use Rattle.sia_index.specs.Minima.{IsNextBelow}
-use Rattle.sia_index.specs.Rows.{AreWritesOf, PassesNone}
-use Rattle.sia_index.specs.Tables.{AreTables}
-use Rattle.sia_index.proofs.Sorting.Points.{PointBelow, PointWithin, point_below, point_from, point_within, point_above}
+use Rattle.sia_index.specs.Info.{AreWrittenKeys, IsFirstWrite}
+use Rattle.sia_index.specs.Lists.{joined}
+use Rattle.sia_index.specs.Tables.{AreTables, AreWriteTables}
+use Rattle.sia_index.proofs.Shared.LogNames.{numbered_wrote, write_has_number}
+use Rattle.sia_index.proofs.Shared.NumberedNames.{same_some}
+use Rattle.sia_index.proofs.Shared.Ordered.{ascends, rises}
+use Rattle.sia_index.proofs.Sorting.Points.{PointBelow, part_gives, part_has, point_below, point_from}
+use Rattle.sia_index.proofs.VersionRows.OwnWrites.{lists_same}
+use Rattle.sia_index.proofs.VersionRows.StableDeal.{joined_has}
 
 -- what is known of the log's transaction number n
 pub own_row : (g h : List Event) → g ≡ h → (txns : Txns) (keys : Keys) (versions : Versions) (writes : Writes) → AreTables g txns keys versions writes → (n t : ℕ) → slice_get (txns_of h) n ≡ Some t
@@ -37,113 +41,88 @@ own_row g h same txns keys versions writes are n t at =
           (name, subst (λ u. StartsAt h u row.start) name lives.0, subst (λ u. Ends h u row.end) name lives.1),
     )
 
--- list number n has the writes of the log's transaction number n
-pub own_rows : (g h : List Event) → g ≡ h → (txns : Txns) (keys : Keys) (versions : Versions) (writes : Writes) → AreTables g txns keys versions writes → (n t : ℕ) → slice_get (txns_of h) n ≡ Some t → (n < length writes.by_txn) × AreWritesOf h t n (slice_index_or writes.by_txn n [])
-own_rows g h same txns keys versions writes are n t at =
-    let all = subst (λ h. AreTables h txns keys versions writes) same are in
-    let within = slice_get_within (txns_of h) n t at in
-    (omega (arith, all.writes_are.count), subst (λ u. AreWritesOf h u n (slice_index_or writes.by_txn n [])) (get_or_from_slice_get (txns_of h) n t 0 at) (all.writes_are.each n within))
+-- of two places among the writes by key the second has no lesser key
+pub keys_rise : (h : List Event) (keys : List ℕ) (w : Writes) → AreWriteTables h keys w → (p q m n k l t u : ℕ) → slice_get (joined w.by_key) p ≡ Some m → slice_get (joined w.by_key) q ≡ Some n → slice_get (writes_of h) m ≡ Some (k, t) → slice_get (writes_of h) n ≡ Some (l, u) → p < q → Precedes (k ∷ m ∷ []) (l ∷ n ∷ [])
+keys_rise h keys w are p q m n k l t u at_p at_q at_m at_n less =
+    let x = get_or_from_slice_get (joined w.by_key) p m 0 at_p in
+    let y = get_or_from_slice_get (joined w.by_key) q n 0 at_q in
+    let key_x = ap (λ (r : ℕ × ℕ). r.0) (get_or_from_slice_get (writes_of h) m (k, t) (0, 0) at_m) in
+    let key_y = ap (λ (r : ℕ × ℕ). r.0) (get_or_from_slice_get (writes_of h) n (l, u) (0, 0) at_n) in
+    subst (λ j. Precedes (j ∷ m ∷ []) (l ∷ n ∷ [])) key_x (subst (λ j. Precedes ((write_at (names_of h) m).0 ∷ m ∷ []) (j ∷ n ∷ [])) key_y
+    (subst (λ i. Precedes ((write_at (names_of h) i).0 ∷ i ∷ []) ((write_at (names_of h) n).0 ∷ n ∷ [])) x
+    (subst (λ i. Precedes ((write_at (names_of h) (slice_index (joined w.by_key) p)).0 ∷ slice_index (joined w.by_key) p ∷ []) ((write_at (names_of h) i).0 ∷ i ∷ [])) y
+    (are.rise p q 0 less (slice_get_within (joined w.by_key) q n at_q)))))
 
-module _ (h : List Event) (t n : ℕ) (rows : List WriteRow) (are : AreWritesOf h t n rows) where
-  -- where the row of a write stands
-  held : (k q : ℕ) → WritesAt h t k q → (i : ℕ) × (i < length rows) × ((slice_index_or rows i (record { key = k; place = q; txn = n })).key ≡ k) × ((slice_index_or rows i (record { key = k; place = q; txn = n })).place ≡ q)
-  held k q writes = let c = (are.each (record { key = k; place = q; txn = n })).1 (writes, refl) in (c.0, c.1, ap (λ (r : WriteRow). r.key) c.2, ap (λ (r : WriteRow). r.place) c.2)
+module _ (h : List Event) (keys : List ℕ) (keys_are : AreWrittenKeys h keys) (w : Writes) (are : AreWriteTables h keys w) (n t : ℕ) (named : slice_get (txns_of h) n ≡ Some t) where
+  abbrev own : List ℕ
+  own = slice_index_or w.by_txn n []
 
-  pub wrote_none : length rows ≡ 0 → (k : ℕ) → ¬ Wrote h t k
-  wrote_none none k (q, writes) = let c = held k q writes in let below = c.1 in omega arith
+  -- at a place among the writes by key stands one of the transaction's
+  abbrev pub IsOwn : ℕ → ℕ → ℕ → Type 0
+  IsOwn p m k = (slice_get (joined w.by_key) p ≡ Some m) × (slice_get (writes_of h) m ≡ Some (k, t))
 
-  pub wrote_some : 0 < length rows → (k : ℕ) × Wrote h t k
-  wrote_some some =
-      let row : WriteRow = slice_index_or rows 0 (record { key = 0; place = 0; txn = 0 }) in
-      (row.key, (row.place, ((are.each row).0 (Contains-get_or rows 0 _ some)).0))
+  pub own_within : n < length w.by_txn
+  own_within = let within = slice_get_within (txns_of h) n t named in omega (arith, are.txn_count)
 
-  -- the row of a key that is at least lo doesn't stand before the point of lo
-  held_from : (lo first i : ℕ) (d : WriteRow) → PointBelow (λ (r : WriteRow). r.key) rows lo first → i < length rows → lo ≤ (slice_index_or rows i d).key → first ≤ i
-  held_from lo first i d low below le = elim (cases_lt i first) [
-    | inl before ↦ let under = point_below (λ (r : WriteRow). r.key) rows lo first low i d below before in absurd (omega arith)
-    | inr after ↦ after
-  ]
+  pub own_listed : ListsAscending (λ p. (m k : ℕ) × IsOwn p m k) (slice_index_or w.by_txn n [])
+  own_listed = lists_same _ _ _ (λ p. ((λ (m, k, here, there). (m, k, (here, there))), (λ (m, k, is). (m, k, is.0, is.1)))) (subst (λ u. ListsAscending (λ p. (m k : ℕ) × (slice_get (joined w.by_key) p ≡ Some m) × (slice_get (writes_of h) m ≡ Some (k, u))) own) (get_or_from_slice_get (txns_of h) n t 0 named) (are.by_txn n (slice_get_within (txns_of h) n t named)))
 
-  module _ (k at : ℕ) (point : PointBelow (λ (r : WriteRow). r.key) rows k at) where
-    -- the row at the point is the first of its key
-    pub first_at : (row : WriteRow) → at < length rows → row ≡ slice_index_or rows at row → row.key ≡ k → IsFirstWrite h t k row.place
-    first_at row below here key = (
-      subst (λ j. WritesAt h t j row.place) key ((are.each row).0 (at, below, sym here)).0,
-      λ q writes.
-          let c = held k q writes in
-          let d : WriteRow = record { key = k; place = q; txn = n } in
-          let own = here ∙ get_or_default rows at row d below in
-          let own_key = ap (λ (r : WriteRow). r.key) own in
-          let own_place = ap (λ (r : WriteRow). r.place) own in
-          let after = held_from k at c.0 d point c.1 (let is = c.2 in omega arith) in
-          let place = c.3 in
-          elim (cases_lt at c.0) [
-            | inl less ↦ let rise = are.places_rise at c.0 d less c.1 (let is = c.2 in omega arith) in omega arith
-            | inr more ↦ let same : at ≡ c.0 = omega arith in let e = ap (λ m. (slice_index_or rows m d).place) same in omega arith
-          ],
-    )
+  pub own_at : (i d : ℕ) → i < length own → (m k : ℕ) × IsOwn (slice_index_or own i d) m k
+  own_at i d below = (own_listed.each (slice_index_or own i d)).0 (Contains-get_or own i d below)
 
-    -- where there is none or it is of another key, no row is of this one
-    pub none_at : ((d : WriteRow) → at < length rows → (slice_index_or rows at d).key ≢ k) → ¬ Wrote h t k
-    none_at other (q, writes) =
-        let c = held k q writes in
-        let d : WriteRow = record { key = k; place = q; txn = n } in
-        let is = c.2 in
-        let after = held_from k at c.0 d point c.1 (omega arith) in
-        let inside : at < length rows = let below = c.1 in omega arith in
-        let least = point_from (λ (r : WriteRow). r.key) rows k at point at d (omega arith) inside in
-        let most = are.keys_rise at c.0 d after c.1 in
-        other d inside (omega arith)
+  -- a key that the transaction wrote has a list, in which its write stands
+  key_list : (k : ℕ) → Wrote h t k → (i : ℕ) × (i < length keys) × (slice_index keys i ≡ k) × (m : ℕ) × (slice_get (writes_of h) m ≡ Some (k, t)) × Contains (slice_index_or w.by_key i []) m
+  key_list k wrote =
+      let (i, below, at) = (keys_are.each k).1 (t, wrote) in
+      let is = get_or_default keys i 0 k below ∙ at in
+      let (m, there) = write_has_number h t k wrote in
+      (i, below, is, m, there, ((are.by_key i below).each m).1 (t, there ∙ ap (λ j. Some (j, t)) (sym is)))
 
--- among the rows of all the first before a place, of those between the points of two keys
-module _ (h : List Event) (t n : ℕ) (all : List WriteRow) (from to : ℕ) (le : from ≤ to) (bound : to ≤ length all) (are : AreWritesOf h t n (slice_range all from to)) (p lo hi first last : ℕ) (most : first ≤ length (slice_range all from to))
-    (most_last : last ≤ length (slice_range all from to)) (low : PointBelow (λ (r : WriteRow). r.key) (slice_range all from to) lo first) (high : PointWithin (λ (r : WriteRow). r.key) (slice_range all from to) hi last) where
-  abbrev own : List WriteRow
-  own = slice_range all from to
+  -- and the transaction's list has the place of it
+  pub own_has : (k : ℕ) → Wrote h t k → (p m : ℕ) × Contains own p × IsOwn p m k
+  own_has k wrote =
+      let (i, below, is, m, there, c) = key_list k wrote in
+      let (p, inside, at) = joined_has w.by_key i m c in
+      let here : slice_get (joined w.by_key) p ≡ Some m = slice_get-get_or (joined w.by_key) p m inside ∙ ap Some at in
+      (p, m, (own_listed.each p).1 (m, k, (here, there)), (here, there))
 
-  at : (i : ℕ) (d : WriteRow) → i < length own → slice_index_or own i d ≡ slice_index_or all (from + i) d
-  at i d below = get_or-between all from to i d (let long = length-between all from to bound in omega arith)
+  pub wrote_none : length own ≡ 0 → (k : ℕ) → ¬ Wrote h t k
+  wrote_none none k wrote = let c = (own_has k wrote).2 in let below = c.1 in omega arith
 
-  pub none_own : AllWithin (λ (w : WriteRow). p ≤ w.place) all (from + first) (from + last) → PassesNone (λ k. WroteBefore h t k p) lo hi None
-  none_own above k low_k high_k (q, before, writes) =
-      let c = held h t n own are k q writes in
-      let d : WriteRow = record { key = k; place = q; txn = n } in
-      let key = c.2 in
-      let place = c.3 in
-      let start = held_from h t n own are lo first c.0 d low c.1 (omega arith) in
-      let end : c.0 < last = (elim (cases_lt c.0 last) [
-        | inl less ↦ less
-        | inr more ↦ let over = point_above (λ (r : WriteRow). r.key) own hi last high c.0 d more c.1 in absurd (omega arith)
-      ]) in
-      let over : p ≤ (slice_index_or all (from + c.0) d).place = above (from + c.0) d (omega arith) (omega arith) in
-      let same = ap (λ (r : WriteRow). r.place) (at c.0 d c.1) in
-      omega arith
+  pub wrote_some : 0 < length own → (k : ℕ) × Wrote h t k
+  wrote_some some = let (m, k, is) = own_at 0 0 some in (k, numbered_wrote h m k t is.1)
 
-  pub some_own : (i : ℕ) → IsNextBelow (λ (w : WriteRow). w.place) all (from + first) (from + last) p i → (e : WriteRow) → PassesNone (λ k. WroteBefore h t k p) lo hi (Some (slice_index_or all i e).key)
-  some_own i next e =
-      let start = next.0 in
-      let end = next.1 in
-      let j : ℕ = i - from in
-      let e_i : from + j ≡ i = omega arith in
-      let inside : j < length own = omega arith in
-      let here_own : (d : WriteRow) → (slice_index_or own j d).key ≡ (slice_index_or all i e).key = λ d. ap (λ (r : WriteRow). r.key) (at j d inside ∙ ap (λ m. slice_index_or all m d) e_i ∙ get_or_default all i d e (let long = length-between all from to bound in omega arith)) in
-      let key = here_own e in
-      let over = point_from (λ (r : WriteRow). r.key) own lo first low j e (omega arith) inside in
-      let under = point_within (λ (r : WriteRow). r.key) own hi last high j e inside (omega arith) in (
-        omega arith,
-        omega arith,
-        λ k le_k less (q, before, writes).
-            let c = held h t n own are k q writes in
-            let d : WriteRow = record { key = k; place = q; txn = n } in
-            let key_c = c.2 in
-            let place_c = c.3 in
-            let key_d = here_own d in
-            let after = held_from h t n own are lo first c.0 d low c.1 (omega arith) in
-            elim (cases_lt c.0 j) [
-              | inl earlier ↦
-                  let same = ap (λ (r : WriteRow). r.place) (at c.0 d c.1) in
-                  let more : p ≤ (slice_index_or all (from + c.0) d).place = next.3 (from + c.0) d (omega arith) (omega arith) in
-                  omega arith
-              | inr later ↦ let rise = are.keys_rise j c.0 d later c.1 in omega arith
-            ],
+  -- the place of a write is the first one of its key
+  pub first_place : (m k : ℕ) → slice_get (writes_of h) m ≡ Some (k, t) → IsFirstWrite h t k (slice_index w.places.items m)
+  first_place m k at =
+      let wrote = numbered_wrote h m k t at in (
+        (are.places.each m k t wrote.0 at wrote.1 (place_within h wrote.0 (Write t k) wrote.1).0).0,
+        λ q writes. (are.places.each m k t q at writes (place_within h q (Write t k) writes).0).1,
       )
+
+  -- where a key's list stands from one place up to another, the transaction's write at the point of the first is that of the key, or it has none
+  module _ (i from to : ℕ) (below : i < length keys) (order : from ≤ to) (bound : to ≤ length (joined w.by_key)) (stretch : slice_range (joined w.by_key) from to ≡ slice_index_or w.by_key i []) (at : ℕ) (point : PointBelow (λ (p : ℕ). p) own from at) where
+    pub write_at_point : (p m : ℕ) → at < length own → p ≡ slice_index_or own at p → p < to → m ≡ slice_index_or (joined w.by_key) p m → slice_get (writes_of h) m ≡ Some (slice_index keys i, t)
+    write_at_point p m inside here less read =
+        let after : from ≤ slice_index_or own at p = point_from (λ (q : ℕ). q) own from at point at p (omega arith) inside in
+        let (q, k, own_is) = subst (λ q. (m k : ℕ) × IsOwn q m k) (sym here) (own_at at p inside) in
+        let same : q ≡ m = same_some q m (sym own_is.0 ∙ slice_get-get_or (joined w.by_key) p m (omega arith) ∙ ap Some (sym read)) in
+        let c = subst (λ list. Contains list m) stretch (part_has (joined w.by_key) from to order bound p m (omega arith) less (sym read)) in
+        let (u, own_key) = ((are.by_key i below).each m).0 c in
+        let pair = same_some (k, t) (slice_index keys i, u) (sym own_is.1 ∙ ap (slice_get (writes_of h)) same ∙ own_key) in
+        own_key ∙ ap (λ v. Some (slice_index keys i, v)) (sym (ap (λ (x : ℕ × ℕ). x.1) pair))
+
+    pub none_at : ((d : ℕ) → at < length own → to ≤ slice_index_or own at d) → ¬ Wrote h t (slice_index keys i)
+    none_at past wrote =
+        let (m, there) = write_has_number h t (slice_index keys i) wrote in
+        let c = ((are.by_key i below).each m).1 (t, there) in
+        let (p, after, before, read) = part_gives (joined w.by_key) from to order bound m (subst (λ list. Contains list m) (sym stretch) c) in
+        let here : slice_get (joined w.by_key) p ≡ Some m = slice_get-get_or (joined w.by_key) p m (omega arith) ∙ ap Some read in
+        let (j, inside, is) = (own_listed.each p).1 (m, slice_index keys i, (here, there)) in
+        elim (cases_lt j at) [
+          | inl less ↦ let under = point_below (λ (q : ℕ). q) own from at point j p inside less in omega arith
+          | inr more ↦
+              let rise = rises (λ (q : ℕ). q) own (ascends (λ (q : ℕ). q) _ own own_listed) at j p more inside in
+              let over = past p (omega arith) in
+              omega arith
+        ]

@@ -18,7 +18,7 @@ use Rattle.sia_events.proofs.Writing.WellFormed.{one_commit}
 use Rattle.sia_index.specs.declared.info.KeyVersion.{KeyVersion}
 use Rattle.sia_index.specs.declared.info.Made.{Made}
 use Rattle.sia_index.specs.declared.versions.VersionRow.{VersionRow}
-use Rattle.sia_index.specs.declared.versions.Written.{Written}
+use Rattle.sia_index.specs.declared.writes.Written.{Written}
 use Rattle.sia_index.specs.declared.versions.Versions.{Versions}
 use Rattle.sia_index.specs.Info.{AreVersions, AreWrittenKeys, IsKeyAt, IsMade}
 use Rattle.sia_index.specs.Numbers.{IsCommittedAt}
@@ -27,7 +27,7 @@ use Rattle.sia_index.specs.Rows.{IsKeyStretch, IsWritten}
 use Rattle.sia_index.specs.Tables.{AreTables, AreVersionTables}
 use Rattle.sia_index.specs.declared.names.Keys.{Keys}
 use Rattle.sia_index.specs.declared.txns.Txns.{Txns}
-use Rattle.sia_index.specs.declared.txns.Writes.{Writes}
+use Rattle.sia_index.specs.declared.writes.Writes.{Writes}
 use Rattle.sia_index.specs.VersionRows.{IsMadeRow, IsVersionRow, before_commit, made_row, version_of}
 use Rattle.sia_index.proofs.VersionRows.DealtVersions.{commit_above, is_made, is_zero, says_version, version_of_write}
 use Rattle.sia_index.proofs.Shared.KeyChains.{key_number}

@@ -1,17 +1,19 @@
 -- The tables of versions, as loops over their rows fill them.
-use Rattle.std.proofs.Common.{◌≡◌, ◌≢◌, inl, inr, ℕ, zero, suc, ◌%◌, ◌+◌, ◌-◌, ◌<◌, ◌≤◌, List, [], ◌∷◌, ◌++◌, length, set, get_or, Some, refl, sym, subst, ◌∙◌, ap, arith, slice_get}
-use Rattle.std.specs.Prelude.{All, AllPairs, slice_index, slice_index_or}
+use Rattle.std.proofs.Common.{◌≡◌, ◌≢◌, inl, inr, ℕ, zero, suc, ◌%◌, ◌+◌, ◌-◌, ◌<◌, ◌≤◌, List, [], ◌∷◌, ◌++◌, length, set, Some, refl, sym, subst, ◌∙◌, ap, arith, slice_get}
+use Rattle.std.specs.Prelude.{All, AllPairs, Contains, slice_index, slice_index_or}
 use Rattle.std.proofs.lemmas.Bool.{cases_lt, cases_eq}
 use Rattle.std.proofs.lemmas.List.{get_or_default, get_or_append_left, get_or_push, get_or-set_same, get_or-set_other, length-set, length_push}
-use Rattle.std.proofs.lemmas.List.Elements.{All-push, Contains-append_left, Contains-get_or, Contains-push}
+use Rattle.std.proofs.lemmas.List.Elements.{All-append, Contains-append_left, Contains-append_right, Contains-get_or}
 use Rattle.sia_events.specs.declared.event.Event.{Event}
 use Rattle.sia_events.specs.Lists.{Precedes}
 use Rattle.sia_events.specs.Numbering.{names_of, writes_of, write_at}
 use Rattle.sia_events.specs.Transactions.{CommitsAt}
 use Rattle.sia_index.specs.declared.versions.VersionRow.{VersionRow}
-use Rattle.sia_index.specs.declared.versions.Written.{Written}
-use Rattle.sia_index.specs.VersionRows.{AreFirsts, AreRowsBelow, AreWritesAt, AreZeroRows, IsMadeRow, IsVersionRow, before_commit}
-use Rattle.sia_index.proofs.Shared.NumberedNames.{same_some}
+use Rattle.sia_index.specs.declared.writes.Written.{Written}
+use Rattle.sia_index.specs.VersionRows.{AreFirsts, AreRowsUpTo, AreUnplaced, AreWritesAt, AreZeroRows, IsMadeRow, IsVersionRow, before_commit}
+use Rattle.sia_index.proofs.VersionRows.DealtVersions.{commit_above}
+use Rattle.sia_index.proofs.VersionRows.StableDeal.{pairs_append}
+use Rattle.sia_events.proofs.OfLaws.Endings.{one_committer}
 
 abbrev pub no_row : VersionRow
 no_row = record { key = 0; commit = 0; maker = 0; write = 0 }
@@ -20,20 +22,6 @@ no_row = record { key = 0; commit = 0; maker = 0; write = 0 }
 pub before_wrapped : (n : ℕ) → n < 4294967296 → (n + 4294967295) % 4294967296 ≡ before_commit n
 before_wrapped zero fits = refl
 before_wrapped (suc n) fits = omega arith
-
--- one more at the end of a list in which each is before each later one
-pub pairs_push : {A : Type 0} (R : A → A → Type 0) (xs : List A) (y : A) → AllPairs R xs → All (λ x. R x y) xs → AllPairs R (xs ++ y ∷ [])
-pairs_push {A} R xs y pairs all i j d less below =
-    let long = length_push xs y in
-    let first = get_or_append_left xs (y ∷ []) d i (omega arith) in
-    elim (cases_lt j (length xs)) [
-      | inl before ↦
-          let second = get_or_append_left xs (y ∷ []) d j before in
-          subst (λ (a : A). R a (get_or (xs ++ y ∷ []) j d)) (sym first) (subst (λ (b : A). R (get_or xs i d) b) (sym second) (pairs i j d less before))
-      | inr last ↦
-          let second = get_or_push xs y d j (omega arith) in
-          subst (λ (a : A). R a (get_or (xs ++ y ∷ []) j d)) (sym first) (subst (λ (b : A). R (get_or xs i d) b) (sym second) (all i d (omega arith)))
-    ]
 
 -- one key more
 pub zero_more : (nobody n : ℕ) (rows : List VersionRow) (row : VersionRow) → AreZeroRows nobody n rows → row.key ≡ n → row.commit ≡ 0 → row.write ≡ 0 → row.maker ≡ nobody → AreZeroRows nobody (n + 1) (rows ++ row ∷ [])
@@ -48,23 +36,21 @@ zero_more nobody n rows row are key commit write maker = (
 )
 
 module _ (h : List Event) (committed keys : List ℕ) where
-  -- before the first write they are those of version 0
-  pub rows_none : (rows : List VersionRow) → AreZeroRows (length committed) (length keys) rows → AreRowsBelow h committed keys 0 rows
+  -- before the first event they are those of version 0
+  pub rows_none : (rows : List VersionRow) → AreZeroRows (length committed) (length keys) rows → AreRowsUpTo h committed keys 0 rows
   rows_none rows are =
       let long = are.0 in
       record {
         ascending = λ i j d less below.
             let x = are.1 i d (omega arith) in
             let y = are.1 j d (omega arith) in
-            let a = x.2 in
-            let b = y.2 in
             let k = x.0 in
             let m = y.0 in
-            inr (a ∙ sym b, inl (omega arith));
+            inr (x.1 ∙ sym y.1, inl (omega arith));
         right = λ i d below.
             let x = are.1 i d (omega arith) in
             let key = x.0 in
-            let write = x.2 in
+            let commit = x.1 in
             ((omega arith, inl (x.2, x.1, x.3)), omega arith);
         zeros = λ i below. (
           slice_index_or rows i no_row,
@@ -72,34 +58,40 @@ module _ (h : List Event) (committed keys : List ℕ) where
           (are.1 i no_row below).0,
           (are.1 i no_row below).2,
         );
-        made = λ w k t c less. absurd (omega arith);
+        made = λ w k t c none there commits. let some = commit_above h t c commits in absurd (omega arith);
       }
 
-  module _ (n : ℕ) (rows : List VersionRow) (are : AreRowsBelow h committed keys n rows) where
-    -- a write of a transaction that didn't commit
-    pub rows_skip : (k t : ℕ) → slice_get (writes_of h) n ≡ Some (k, t) → ((c : ℕ) → ¬ CommitsAt h t c) → AreRowsBelow h committed keys (n + 1) rows
-    rows_skip k t at none = record {
+  module _ (n : ℕ) (rows : List VersionRow) (are : AreRowsUpTo h committed keys n rows) where
+    -- a place where nothing commits
+    pub rows_skip : ((t : ℕ) → ¬ CommitsAt h t (n + 1)) → AreRowsUpTo h committed keys (n + 1) rows
+    rows_skip none = record {
       ascending = are.ascending;
       right = λ i d below. ((are.right i d below).0, (let most = (are.right i d below).1 in omega arith));
       zeros = are.zeros;
-      made = λ w l u c less there commits. elim (cases_lt w n) [
-        | inl before ↦ are.made w l u c before there commits
-        | inr last ↦
-            let same : w ≡ n = omega arith in
-            let pair = same_some (l, u) (k, t) (sym there ∙ ap (slice_get (writes_of h)) same ∙ at) in
-            absurd (none c (subst (λ v. CommitsAt h v c) (ap (λ (p : ℕ × ℕ). p.1) pair) commits))
+      made = λ w k t c most there commits. elim (cases_lt n c) [
+        | inl last ↦ let at : c ≡ n + 1 = omega arith in absurd (none t (subst (CommitsAt h t) at commits))
+        | inr before ↦ are.made w k t c before there commits
       ];
     }
 
-    -- and one of a transaction that did
-    pub rows_more : (row : VersionRow) → row.key < length keys → row.write ≡ n + 1 → IsMadeRow h committed keys row → AreRowsBelow h committed keys (n + 1) (rows ++ row ∷ [])
-    rows_more row key write made = record {
-      ascending = pairs_push (λ (x : VersionRow) y. Precedes (x.write ∷ x.key ∷ []) (y.write ∷ y.key ∷ [])) rows row are.ascending (λ i d below. let most = (are.right i d below).1 in inl (omega arith));
-      right = All-push (λ r. IsVersionRow h committed keys r × (r.write ≤ n + 1)) rows row (λ i d below. ((are.right i d below).0, (let most = (are.right i d below).1 in omega arith))) ((key, inr made), omega arith);
-      zeros = λ i below. let old = are.zeros i below in (old.0, Contains-append_left rows (row ∷ []) old.0 old.1, old.2, old.3);
-      made = λ w l u c less there commits. elim (cases_lt w n) [
-        | inl before ↦ let old = are.made w l u c before there commits in (old.0, Contains-append_left rows (row ∷ []) old.0 old.1, old.2)
-        | inr last ↦ (row, Contains-push rows row, omega arith)
+    -- and one where a transaction does, with the rows of its versions
+    pub rows_more : (t : ℕ) → CommitsAt h t (n + 1) → (more : List VersionRow) → AllPairs (λ x y. x.key < y.key) more → All (λ row. (row.key < length keys) × (row.commit ≡ n + 1) × IsMadeRow h committed keys row) more
+        → ((w k : ℕ) → slice_get (writes_of h) w ≡ Some (k, t) → (row : VersionRow) × Contains more row × (row.write ≡ w + 1)) → AreRowsUpTo h committed keys (n + 1) (rows ++ more)
+    rows_more t here more up right all = record {
+      ascending = pairs_append (λ (x : VersionRow) y. Precedes (x.commit ∷ x.key ∷ []) (y.commit ∷ y.key ∷ [])) rows more are.ascending
+          (λ i j d less below. inr ((right i d (omega arith)).1 ∙ sym (right j d below).1, inl (up i j d less below)))
+          (λ i d below j e inside. let most = (are.right i d below).1 in let last = (right j e inside).1 in inl (omega arith));
+      right = All-append (λ row. IsVersionRow h committed keys row × (row.commit ≤ n + 1)) rows more
+          (λ i d below. ((are.right i d below).0, (let most = (are.right i d below).1 in omega arith)))
+          (λ i d below. let is = right i d below in let last = is.1 in ((is.0, inr is.2), omega arith));
+      zeros = λ i below. let old = are.zeros i below in (old.0, Contains-append_left rows more old.0 old.1, old.2, old.3);
+      made = λ w k u c most there commits. elim (cases_lt n c) [
+        | inl last ↦
+            let at : c ≡ n + 1 = omega arith in
+            let same = one_committer h u t (n + 1) (subst (CommitsAt h u) at commits) here in
+            let new = all w k (subst (λ v. slice_get (writes_of h) w ≡ Some (k, v)) same there) in
+            (new.0, Contains-append_right rows more new.0 new.1, new.2)
+        | inr before ↦ let old = are.made w k u c before there commits in (old.0, Contains-append_left rows more old.0 old.1, old.2)
       ];
     }
 
@@ -137,12 +129,8 @@ module _ (rows : List VersionRow) (n keys : ℕ) (firsts : List ℕ) (are : AreF
       key : ℕ
       key = (slice_index_or rows n r).key
 
--- the keys of the first n writes, none of which has a position
-abbrev pub WritesSoFar : List Event → List ℕ → ℕ → List Written → Type 0
-WritesSoFar h keys n writes = (length writes ≡ n)
-    × ((w : ℕ) (d : Written) → w < n → ((slice_index_or writes w d).key < length keys) × (slice_index keys (slice_index_or writes w d).key ≡ (write_at (names_of h) w).0) × ((slice_index_or writes w d).position ≡ 4294967295))
-
-pub writes_more : (h : List Event) (keys : List ℕ) (n : ℕ) (writes : List Written) → WritesSoFar h keys n writes → (write : Written) → write.key < length keys → slice_index keys write.key ≡ (write_at (names_of h) n).0 → write.position ≡ 4294967295 → WritesSoFar h keys (n + 1) (writes ++ write ∷ [])
+-- the key of one write more
+pub writes_more : (h : List Event) (keys : List ℕ) (n : ℕ) (writes : List Written) → AreUnplaced h keys n writes → (write : Written) → write.key < length keys → slice_index keys write.key ≡ (write_at (names_of h) n).0 → write.position ≡ 4294967295 → AreUnplaced h keys (n + 1) (writes ++ write ∷ [])
 writes_more h keys n writes so write within key position = (
   length_push writes write ∙ ap (λ m. m + 1) so.0,
   λ w d below. elim (cases_lt w n) [
@@ -153,7 +141,7 @@ writes_more h keys n writes so write within key position = (
   ],
 )
 
-pub writes_unplaced : (h : List Event) (keys : List ℕ) (writes : List Written) (rows : List VersionRow) → length rows < 4294967296 → WritesSoFar h keys (length (writes_of h)) writes → AreWritesAt h keys rows 0 writes
+pub writes_unplaced : (h : List Event) (keys : List ℕ) (writes : List Written) (rows : List VersionRow) → length rows < 4294967296 → AreUnplaced h keys (length (writes_of h)) writes → AreWritesAt h keys rows 0 writes
 writes_unplaced h keys writes rows few so = record {
   count = so.0;
   keys_are = λ w d below. let is = so.1 w d below in (is.0, is.1);

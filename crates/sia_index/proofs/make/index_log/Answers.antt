@@ -7,7 +7,7 @@ invariant_of-result c = rw c.of.ensures (record {
   txns_are = c.in_ok-txns.ensures;
   keys_are = c.in_ok-keys.ensures;
   versions_are = c.in_ok-versions.ensures;
-  writes_are = c.in_ok-writes.ensures;
+  writes_are = c.in_ok-written.ensures.tables;
 })
 
 pub returns : goal.returns

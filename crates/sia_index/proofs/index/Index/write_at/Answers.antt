@@ -2,7 +2,7 @@
 use Rattle.std.proofs.Common.{◌≡◌, ◌-◌, length, ap, arith, subst}
 use Rattle.std.specs.Prelude.{slice_index_or}
 use Rattle.sia_index.specs.Tables.{AreTables}
-use Rattle.sia_index.specs.declared.versions.Written.{Written}
+use Rattle.sia_index.specs.declared.writes.Written.{Written}
 use Rattle.sia_index.proofs.Answering.PositionLaws.{write_is}
 use Rattle.sia_index.proofs.index.Index.write_at.Goals as goal
 
