@@ -5,3 +5,4 @@ pub mod Placed
 pub mod Points
 pub mod SideBySide
 pub mod SortedLists
+pub mod Turned
