@@ -16,8 +16,9 @@ ghost use Rattle.sia_events.specs.Reads.{IsDue};
 ghost use Rattle.sia_index.specs.Counting.{AreCounts};
 
 use crate::info::{Counts, Fate, Lifetime, Made, Reader, TxnInfo, overlap};
-use crate::keyed::{ByKey, ByPlace, between, find, place_above, place_from};
+use crate::keyed::{ByKey, ByPlace, find, place_above, place_from};
 use crate::lists::end_at;
+use crate::minima::next_below;
 use crate::names::Keys;
 use crate::txns::Txns;
 use crate::versions::Versions;
@@ -250,12 +251,28 @@ impl Index {
         requires { IsReader self.now reader.txn reader.place reader }
         ensures { PassesNone (λ k. WroteBefore self.now reader.txn k reader.place) lo hi result }
     {
-        for k in between::<Key, ByKey>(&self.keys.keys, lo, hi) {
-            if self.wrote_before(reader, *k) {
-                return Some(*k);
-            }
+        if !reader.has_written {
+            return None;
         }
-        None
+        let keys = &self.keys.keys;
+        let writes = &self.writes;
+        let (from, to) = writes.by_txn.span(reader.number as usize);
+        let own = &writes.by_txn.rows()[from..to];
+        // Where the first key and what is behind the last one begin among the writes by key.
+        let low = writes.by_key.start(place_from::<Key, ByKey>(keys, lo)) as u64;
+        let high = writes.by_key.start(place_above::<Key, ByKey>(keys, hi)) as u64;
+        let first = from + place_from::<u32, ByPlace>(own, low);
+        let last = from + place_from::<u32, ByPlace>(own, high);
+        let place = u64::from(reader.place);
+        let next = next_below::<u32, ByPlace>(
+            &writes.own_places,
+            &writes.minima,
+            first,
+            last,
+            place,
+        )?;
+        let write = writes.by_key.rows()[writes.by_txn.rows()[next] as usize];
+        Some(keys[self.versions.writes[write as usize].key as usize])
     }
 }
 

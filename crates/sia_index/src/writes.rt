@@ -1,11 +1,14 @@
 //! The first writes of the log, counted from 0: by key, of each transaction, and where they stand.
-ghost use Rattle.std.specs.Prelude.{IfOk, length};
+ghost use Rattle.std.specs.Prelude.{◌<◌, All, IfOk, length, slice_index};
 ghost use Rattle.sia_events.specs.Numbering.{writes_of};
+ghost use Rattle.sia_index.specs.Lists.{joined};
+ghost use Rattle.sia_index.specs.Rows.{IsColumn};
 ghost use Rattle.sia_index.specs.Tables.{AreKeys, AreWritePlaces, AreWriteTables};
 ghost use Rattle.sia_index.specs.VersionRows.{AreUnplaced};
 
-use crate::keyed::{By, ByKey, ByTxn};
+use crate::keyed::{By, ByKey, ByPlace, ByTxn};
 use crate::lists::Lists;
+use crate::minima::minima_of;
 use crate::names::Keys;
 use sia_events::{Log, Row, TxnId};
 use std::alloc::{AllocError, Global};
@@ -26,12 +29,14 @@ impl By<Written> for ByKey {
 }
 
 /// The writes of each key, in the order of the log; of each transaction where its own stand among these, so that they are by key;
-/// and of each write its place in the history.
+/// and of each write its place in the history. These stand by transaction, too, with the least of them in a row.
 #[derive(Drop)]
 pub struct Writes {
     pub by_key: Lists<u32>,
     pub by_txn: Lists<u32>,
     pub places: Vec<u32>,
+    pub own_places: Vec<u32>,
+    pub minima: Vec<u64>,
 }
 
 /// The writes of the log, and the key of each. None has a position yet.
@@ -58,10 +63,15 @@ pub fn writes_of(
     for write in by_key.rows() {
         txns.push(log.write(*write + 1).txn)?;
     }
+    let by_txn = Lists::<u32>::places::<TxnId, ByTxn>(alloc, log.txn_count() as usize, &txns)?;
+    let places = places_of(alloc, log)?;
+    let own_places = own_places_of(alloc, &by_key, &by_txn, &places)?;
     let writes = Writes {
-        by_txn: Lists::<u32>::places::<TxnId, ByTxn>(alloc, log.txn_count() as usize, &txns)?,
         by_key,
-        places: places_of(alloc, log)?,
+        by_txn,
+        places,
+        minima: minima_of::<u32, ByPlace>(alloc, &own_places)?,
+        own_places,
     };
     Ok((written, writes))
 }
@@ -78,4 +88,24 @@ fn places_of(alloc: Global, log: &Log) -> Result<Vec<u32>, AllocError>
         }
     }
     Ok(places)
+}
+
+/// The places of the writes of each transaction, one after another.
+fn own_places_of(
+    alloc: Global,
+    by_key: &Lists<u32>,
+    by_txn: &Lists<u32>,
+    places: &[u32],
+) -> Result<Vec<u32>, AllocError>
+    requires own { All (λ at. at < length (joined by_key.now)) (joined by_txn.now) }
+    requires writes { All (λ write. write < length places.now) (joined by_key.now) }
+    ensures { IfOk result (λ own. IsColumn (λ at. slice_index places.now (slice_index (joined by_key.now) at))
+        (joined by_txn.now) (length (joined by_txn.now)) own.items) }
+{
+    let writes = by_key.rows();
+    let mut own = Vec::with_capacity(alloc, by_txn.rows().len())?;
+    for at in by_txn.rows() {
+        own.push(places[writes[*at as usize] as usize])?;
+    }
+    Ok(own)
 }

@@ -1,8 +1,10 @@
 -- The row of a transaction, and its first writes by key.
-use Rattle.std.proofs.Common.{slice_get, ◌≡◌, ℕ, ◌<◌, ◌≤◌, List, [], ◌∷◌, length, Some, inl, inr, ap, sym, subst, ◌∙◌, arith}
+use Rattle.std.proofs.Common.{slice_get, take, ◌≡◌, ℕ, ◌+◌, ◌-◌, ◌<◌, ◌≤◌, List, [], ◌∷◌, length, Some, None, inl, inr, ap, sym, subst, ◌∙◌, arith}
 use Rattle.std.specs.Prelude.{Contains, slice_index, slice_index_or, slice_range}
 use Rattle.std.proofs.lemmas.Bool.{cases_lt}
 use Rattle.std.proofs.lemmas.List.{get_or-map, get_or_default, length-map}
+use Rattle.std.specs.List.{AllWithin}
+use Rattle.std.proofs.lemmas.List.Edits.{get_or-between, length-between}
 use Rattle.std.proofs.lemmas.List.Elements.{Contains-get_or}
 use Rattle.std.proofs.lemmas.Option.{get_or_from_slice_get, slice_get-get_or, slice_get_within}
 use Rattle.sia_events.specs.declared.event.Event.{Event}
@@ -11,7 +13,7 @@ use Rattle.sia_events.specs.declared.log.TxnRow.{TxnRow}
 use Rattle.sia_events.specs.Lists.{ListsAscending, Precedes}
 use Rattle.sia_events.specs.LogTables.{Lives, txn_names}
 use Rattle.sia_events.specs.Numbering.{Ends, names_of, txns_of, write_at, writes_of}
-use Rattle.sia_events.specs.Transactions.{StartsAt, Wrote}
+use Rattle.sia_events.specs.Transactions.{StartsAt, Wrote, WroteBefore}
 use Rattle.sia_events.proofs.Shared.TransactionDecisions.{place_within}
 use Rattle.sia_index.specs.declared.names.Keys.{Keys}
 use Rattle.sia_index.specs.declared.txns.Txns.{Txns}
@@ -19,11 +21,14 @@ use Rattle.sia_index.specs.declared.writes.Writes.{Writes}
 use Rattle.sia_index.specs.declared.versions.Versions.{Versions}
 use Rattle.sia_index.specs.Info.{AreWrittenKeys, IsFirstWrite}
 use Rattle.sia_index.specs.Lists.{joined}
+use Rattle.sia_index.specs.Minima.{IsNextBelow}
+use Rattle.sia_index.specs.Rows.{PassesNone}
 use Rattle.sia_index.specs.Tables.{AreTables, AreWriteTables}
 use Rattle.sia_index.proofs.Shared.LogNames.{numbered_wrote, write_has_number}
 use Rattle.sia_index.proofs.Shared.NumberedNames.{same_some}
 use Rattle.sia_index.proofs.Shared.Ordered.{ascends, rises}
-use Rattle.sia_index.proofs.Sorting.Points.{PointBelow, part_gives, part_has, point_below, point_from}
+use Rattle.sia_index.proofs.Sorting.Points.{PointBelow, PointWithin, part_gives, part_has, point_above, point_below, point_from, point_within}
+use Rattle.sia_index.proofs.Sorting.SideBySide.{list_before, list_behind}
 use Rattle.sia_index.proofs.VersionRows.OwnWrites.{lists_same}
 use Rattle.sia_index.proofs.VersionRows.StableDeal.{joined_has}
 
@@ -126,3 +131,135 @@ module _ (h : List Event) (keys : List ℕ) (keys_are : AreWrittenKeys h keys) (
               let over = past p (omega arith) in
               omega arith
         ]
+
+  -- none of the first places has a write of a key from lo to hi before the place
+  abbrev pub PassedOwn : ℕ → ℕ → ℕ → ℕ → Type 0
+  PassedOwn lo hi place n = (j d m k : ℕ) → j < n → IsOwn (slice_index_or own j d) m k → lo ≤ k → k ≤ hi → place ≤ slice_index w.places.items m
+
+  pub none_own : (lo hi place : ℕ) → PassedOwn lo hi place (length own) → PassesNone (λ k. WroteBefore h t k place) lo hi None
+  none_own lo hi place passed k low high (q, before, writes) =
+      let (p, m, c, own_is) = own_has k (q, writes) in
+      let over = passed c.0 p m k c.1 (subst (λ x. IsOwn x m k) (sym c.2) own_is) low high in
+      let least = (first_place m k own_is.1).1 q writes in
+      omega arith
+
+  pub some_own : (lo hi place i d m k : ℕ) → i < length own → PassedOwn lo hi place i → IsOwn (slice_index_or own i d) m k → lo ≤ k → k ≤ hi → PassesNone (λ k. WroteBefore h t k place) lo hi (Some k)
+  some_own lo hi place i d m k below passed is low high = (
+    low,
+    high,
+    λ k' low' less (q, before, writes).
+        let (p, m', c, own_is) = own_has k' (q, writes) in
+        elim (cases_lt c.0 i) [
+          | inl earlier ↦
+              let over = passed c.0 p m' k' earlier (subst (λ x. IsOwn x m' k') (sym c.2) own_is) low' (omega arith) in
+              let least = (first_place m' k' own_is.1).1 q writes in
+              omega arith
+          | inr later ↦
+              let up = rises (λ (q : ℕ). q) own (ascends (λ (q : ℕ). q) _ own own_listed) i c.0 p later c.1 in
+              let at = c.2 in
+              let first : slice_index_or own i d ≡ slice_index_or own i p = get_or_default own i d p below in
+              elim (cases_lt (slice_index_or own i d) p) [
+                | inl above ↦ elim (keys_rise h keys w are (slice_index_or own i d) p m m' k k' t t is.0 own_is.0 is.1 own_is.1 above) [ inl more ↦ omega arith | inr equal ↦ let key = equal.0 in omega arith ]
+                | inr same ↦
+                    let one : p ≡ slice_index_or own i d = omega arith in
+                    let write : m ≡ m' = same_some m m' (sym is.0 ∙ ap (slice_get (joined w.by_key)) (sym one) ∙ own_is.0) in
+                    let pair = same_some (k, t) (k', t) (sym is.1 ∙ ap (slice_get (writes_of h)) write ∙ own_is.1) in
+                    let key : k ≡ k' = ap (λ (x : ℕ × ℕ). x.0) pair in
+                    omega arith
+              ]
+        ],
+  )
+
+  -- what stands before the start of key number r among the writes by key is of a key before it, and what stands behind it of that one or a later one
+  abbrev pub start : ℕ → ℕ
+  start r = length (joined (take r w.by_key))
+
+  key_is : (i p m k : ℕ) → i < length keys → Contains (slice_index_or w.by_key i []) m → IsOwn p m k → k ≡ slice_index keys i
+  key_is i p m k below c is = let (u, at) = ((are.by_key i below).each m).0 c in ap (λ (x : ℕ × ℕ). x.0) (same_some (k, t) (slice_index keys i, u) (sym is.1 ∙ at))
+
+  before : (r p m k : ℕ) → p < start r → IsOwn p m k → (i : ℕ) × (i < r) × (i < length keys) × (k ≡ slice_index keys i)
+  before r p m k less is =
+      let (i, up, within, c) = list_before w.by_key r p m less (get_or_from_slice_get (joined w.by_key) p m m is.0) in
+      let inside : i < length keys = omega (arith, are.key_count) in
+      (i, up, inside, key_is i p m k inside c is)
+
+  behind : (r p m k : ℕ) → start r ≤ p → IsOwn p m k → (i : ℕ) × (r ≤ i) × (i < length keys) × (k ≡ slice_index keys i)
+  behind r p m k over is =
+      let (i, up, within, c) = list_behind w.by_key r p m over (slice_get_within (joined w.by_key) p m is.0) (get_or_from_slice_get (joined w.by_key) p m m is.0) in
+      let inside : i < length keys = omega (arith, are.key_count) in
+      (i, up, inside, key_is i p m k inside c is)
+
+  -- those of the transaction between the starts of the first key that is asked for and of the one behind the last
+  module _ (from to : ℕ) (order : from ≤ to) (bound : to ≤ length (joined w.by_txn)) (stretch : slice_range (joined w.by_txn) from to ≡ slice_index_or w.by_txn n []) (lo hi place low high first last : ℕ) (most : last ≤ length (slice_index_or w.by_txn n [])) (is_low : PointBelow (λ (k : ℕ). k) keys lo low) (is_high : PointWithin (λ (k : ℕ). k) keys hi high)
+      (is_first : PointBelow (λ (p : ℕ). p) (slice_index_or w.by_txn n []) (length (joined (take low w.by_key))) first) (is_last : PointBelow (λ (p : ℕ). p) (slice_index_or w.by_txn n []) (length (joined (take high w.by_key))) last) where
+    row_at : (j d : ℕ) → j < length own → slice_index_or own j d ≡ slice_index_or (joined w.by_txn) (from + j) d
+    row_at j d below =
+        let long = length-between (joined w.by_txn) from to bound in
+        let same = ap length stretch in
+        ap (λ xs. slice_index_or xs j d) (sym stretch) ∙ get_or-between (joined w.by_txn) from to j d (omega arith)
+
+    inside_all : (j : ℕ) → j < length own → from + j < length (joined w.by_txn)
+    inside_all j below = let long = length-between (joined w.by_txn) from to bound in let same = ap length stretch in omega arith
+
+    place_at : (j d m k : ℕ) → j < length own → IsOwn (slice_index_or own j d) m k → slice_index w.own_places.items (from + j) ≡ slice_index w.places.items m
+    place_at j d m k below is =
+        let count = are.own_places.0 in
+        are.own_places.1 (from + j) 0 d (let inside = inside_all j below in omega arith)
+        ∙ ap (λ p. slice_index w.places.items (slice_index (joined w.by_key) p)) (sym (row_at j d below))
+        ∙ ap (slice_index w.places.items) (get_or_from_slice_get (joined w.by_key) (slice_index_or own j d) m 0 is.0)
+
+    between : (j d m k : ℕ) → j < length own → IsOwn (slice_index_or own j d) m k → lo ≤ k → k ≤ hi → (first ≤ j) × (j < last)
+    between j d m k below is low_k high_k = (
+      elim (cases_lt j first) [
+        | inl less ↦
+            let under = point_below (λ (p : ℕ). p) own (start low) first is_first j d below less in
+            let (i, up, inside, key) = before low (slice_index_or own j d) m k under is in
+            let small = point_below (λ (k : ℕ). k) keys lo low is_low i 0 inside up in
+            absurd (omega arith)
+        | inr more ↦ more
+      ],
+      elim (cases_lt j last) [
+        | inl less ↦ less
+        | inr more ↦
+            let over = point_from (λ (p : ℕ). p) own (start high) last is_last j d more below in
+            let (i, up, inside, key) = behind high (slice_index_or own j d) m k over is in
+            let great = point_above (λ (k : ℕ). k) keys hi high is_high i 0 up inside in
+            absurd (omega arith)
+      ],
+    )
+
+    pub none_between : AllWithin (λ p. place ≤ p) w.own_places.items (from + first) (from + last) → PassesNone (λ k. WroteBefore h t k place) lo hi None
+    none_between above = none_own lo hi place (λ j d m k below is low_k high_k.
+        let (a, b) = between j d m k below is low_k high_k in
+        let over = above (from + j) 0 (omega arith) (omega arith) in
+        let same = place_at j d m k below is in
+        omega arith)
+
+    pub some_between : (q : ℕ) → IsNextBelow (λ p. p) w.own_places.items (from + first) (from + last) place q → (m k : ℕ) × (IsOwn (slice_index (joined w.by_txn) q) m k × PassesNone (λ k. WroteBefore h t k place) lo hi (Some k))
+    some_between q next =
+        let start_q = next.0 in
+        let end_q = next.1 in
+        let j : ℕ = q - from in
+        let e_q : from + j ≡ q = omega arith in
+        let inside : j < length own = omega arith in
+        let (m, k, is) = own_at j 0 inside in
+        let here : slice_index_or own j 0 ≡ slice_index (joined w.by_txn) q = row_at j 0 inside ∙ ap (slice_index (joined w.by_txn)) e_q in
+        let over = point_from (λ (p : ℕ). p) own (start low) first is_first j 0 (omega arith) inside in
+        let under = point_below (λ (p : ℕ). p) own (start high) last is_last j 0 inside (omega arith) in
+        let (a, a_up, a_in, a_key) = behind low (slice_index_or own j 0) m k over is in
+        let (b, b_up, b_in, b_key) = before high (slice_index_or own j 0) m k under is in
+        let low_k = point_from (λ (k : ℕ). k) keys lo low is_low a 0 a_up a_in in
+        let high_k = point_within (λ (k : ℕ). k) keys hi high is_high b 0 b_in b_up in (
+          m,
+          k,
+          (
+            subst (λ p. IsOwn p m k) here is,
+            some_own lo hi place j 0 m k inside
+                (λ i d n l less own_is l_low l_high.
+                let (c, c') = between i d n l (omega arith) own_is l_low l_high in
+                let above = next.3 (from + i) 0 (omega arith) (omega arith) in
+                let same = place_at i d n l (omega arith) own_is in
+                omega arith)
+                is (omega arith) (omega arith),
+          ),
+        )

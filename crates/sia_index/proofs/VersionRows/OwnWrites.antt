@@ -15,6 +15,8 @@ use Rattle.sia_events.specs.declared.log.Row.TheVariants as rows
 use Rattle.sia_index.specs.declared.writes.Written.{Written}
 use Rattle.sia_index.specs.Info.{AreWrittenKeys}
 use Rattle.sia_index.specs.Lists.{joined, places_by}
+use Rattle.sia_index.specs.Minima.{AreMinima}
+use Rattle.sia_index.specs.Rows.{IsColumn}
 use Rattle.sia_index.specs.Tables.{AreWritePlaces, AreWriteTables}
 use Rattle.sia_index.specs.VersionRows.{AreUnplaced}
 use Rattle.sia_index.proofs.Shared.LogNames.{txns_stand_once, writes_stand_once}
@@ -124,8 +126,9 @@ module _ (h : List Event) (keys : List ℕ) (keys_are : AreWrittenKeys h keys) (
       rise m n first second (inr (same, less)) = inr (sym first.1 ∙ ap (slice_index keys) same ∙ second.1, inl less)
 
   -- with the places of the transactions' own they are the tables
-  pub write_tables : (by_key by_txn : List (List ℕ)) (txns : List ℕ) (places : Vec ℕ Global) → by_key ≡ places_by (λ (w : Written). w.key) (length keys) written → TxnsSoFar h (joined by_key) (length (joined by_key)) txns → by_txn ≡ places_by (λ (m : ℕ). m) (length (txns_of h)) txns → AreWritePlaces h 0 places.items → AreWriteTables h keys (record { by_key = by_key; by_txn = by_txn; places = places })
-  write_tables by_key by_txn txns places is so own at =
+  pub write_tables : (by_key by_txn : List (List ℕ)) (txns : List ℕ) (places firsts minima : Vec ℕ Global) → by_key ≡ places_by (λ (w : Written). w.key) (length keys) written → TxnsSoFar h (joined by_key) (length (joined by_key)) txns → by_txn ≡ places_by (λ (m : ℕ). m) (length (txns_of h)) txns → AreWritePlaces h 0 places.items → IsColumn (λ p. slice_index places.items (slice_index (joined by_key) p)) (joined by_txn) (length (joined by_txn)) firsts.items → AreMinima (λ place. place) firsts.items minima.items
+      → AreWriteTables h keys (record { by_key = by_key; by_txn = by_txn; places = places; own_places = firsts; minima = minima })
+  write_tables by_key by_txn txns places firsts minima is so own at column tree =
       let lists = own_places h (joined by_key) txns so in
       record {
         key_count = rw is writes_by_key.0;
@@ -134,6 +137,8 @@ module _ (h : List Event) (keys : List ℕ) (keys_are : AreWrittenKeys h keys) (
         txn_count = rw own lists.0;
         by_txn = rw own lists.1;
         places = at;
+        own_places = column;
+        minima_are = tree;
       }
 
 -- the event at a place, by its row

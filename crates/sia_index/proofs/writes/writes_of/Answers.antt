@@ -11,8 +11,9 @@ use Rattle.sia_index.specs.VersionRows.{AreUnplaced}
 use Rattle.sia_index.proofs.Shared.LogNames.{numbered_wrote}
 use Rattle.sia_index.proofs.Shared.NumberedNames.{number_there}
 use Rattle.sia_index.proofs.VersionRows.OwnWrites.{TxnsSoFar, txns_more, write_tables, writes_below}
+use Rattle.sia_index.proofs.VersionRows.PlacesBy.{places_below}
 use Rattle.sia_index.proofs.VersionRows.VersionTables.{writes_more}
-use Rattle.sia_index.proofs.writes.writes_of.Goals.{After-loop-before, In_ok-by_key}
+use Rattle.sia_index.proofs.writes.writes_of.Goals.{After-loop-before, After-loop-write, In_ok-by_key, In_ok-by_txn}
 use Rattle.sia_index.proofs.writes.writes_of.Goals as goal
 
 pub loop-before-preserved : goal.loop-before-preserved
@@ -62,12 +63,27 @@ loop-write-preserved c =
 pub returns-clause-written : goal.returns-clause-written
 returns-clause-written c = all_written (goal.at.returns-clause-written c).After-loop-before
 
+own_is : (c : In_ok-by_txn) → c.in_ok-by_txn.by_txn ≡ places_by (λ (m : ℕ). m) (length (txns_of c.args.log.now)) c.loop-write.txns.items
+own_is c = c.in_ok-by_txn.ensures ∙ ap (places_by (λ (m : ℕ). m) c.txn_count.result) c.deref-2.ensures.value ∙ ap (λ n. places_by (λ (m : ℕ). m) n c.loop-write.txns.items) c.txn_count.ensures
+
+-- each of those by key has its transaction
+all_txns : (c : After-loop-write) → TxnsSoFar c.args.log.now c.rows-write-items.result.now (length c.rows-write-items.result.now) c.loop-write.txns.items
+all_txns c = let end : c.loop-write.write-index ≡ length c.rows-write-items.result.now = (let last = c.loop-write-test.false in let most = c.loop-write.auto.write-index-end in omega arith) in subst (λ n. TxnsSoFar c.args.log.now c.rows-write-items.result.now n c.loop-write.txns.items) end c.loop-write.invariant
+
+pub own_places_of-requires-clause-own : goal.own_places_of-requires-clause-own
+own_places_of-requires-clause-own c =
+    let count = (all_txns (goal.at.own_places_of-requires-clause-own c).After-loop-write).0 in
+    let rows = ap length c.rows-write-items.ensures in
+    rw (own_is (goal.at.own_places_of-requires-clause-own c).In_ok-by_txn) (λ k d below. let inside = places_below (λ (m : ℕ). m) c.loop-write.txns.items (length (txns_of c.args.log.now)) k d below in omega arith)
+
+pub own_places_of-requires-clause-writes : goal.own_places_of-requires-clause-writes
+own_places_of-requires-clause-writes c =
+    rw (by_key_is (goal.at.own_places_of-requires-clause-writes c).In_ok-by_key, c.deref-3.ensures.value)
+    (λ k d below. let inside = writes_below c.args.log.now c.args.keys.now.keys.items c.requires.keys_are.listed_are c.loop-before.written.items (all_written (goal.at.own_places_of-requires-clause-writes c).After-loop-before) k d below in omega (arith, c.in_ok-places.ensures.long))
+
 pub returns-clause-tables : goal.returns-clause-tables
 returns-clause-tables c =
     let h = c.args.log.now in
     let keys = c.args.keys.now.keys.items in
-    let rows = c.rows-write-items.result.now in
-    let end : c.loop-write.write-index ≡ length rows = (let last = c.loop-write-test.false in let most = c.loop-write.auto.write-index-end in omega arith) in
-    let count : c.txn_count.result ≡ length (txns_of h) = c.txn_count.ensures in
-    let own : c.in_ok-places.field-0 ≡ places_by (λ (m : ℕ). m) (length (txns_of h)) c.loop-write.txns.items = c.in_ok-places.ensures ∙ ap (places_by (λ (m : ℕ). m) c.txn_count.result) c.deref-2.ensures.value ∙ ap (λ n. places_by (λ (m : ℕ). m) n c.loop-write.txns.items) count in
-    write_tables h keys c.requires.keys_are.listed_are c.loop-before.written.items (all_written (goal.at.returns-clause-tables c).After-loop-before) _ _ c.loop-write.txns.items _ (c.by_key.view_is ∙ by_key_is (goal.at.returns-clause-tables c).In_ok-by_key) (subst (λ xs. TxnsSoFar h xs (length xs) c.loop-write.txns.items) (c.rows-write-items.ensures ∙ ap joined (sym c.by_key.view_is)) (subst (λ n. TxnsSoFar h rows n c.loop-write.txns.items) end c.loop-write.invariant)) own c.in_ok-places_of.ensures
+    write_tables h keys c.requires.keys_are.listed_are c.loop-before.written.items (all_written (goal.at.returns-clause-tables c).After-loop-before) _ _ c.loop-write.txns.items _ _ _ (c.by_key.view_is ∙ by_key_is (goal.at.returns-clause-tables c).In_ok-by_key) (subst (λ xs. TxnsSoFar h xs (length xs) c.loop-write.txns.items) (c.rows-write-items.ensures ∙ ap joined (sym c.by_key.view_is)) (all_txns (goal.at.returns-clause-tables c).After-loop-write)) (c.by_txn.view_is ∙ own_is (goal.at.returns-clause-tables c).In_ok-by_txn) c.in_ok-places.ensures
+    (rw (c.by_key.view_is, c.by_txn.view_is) (rw c.deref-3.ensures.value at c.in_ok-own_places.ensures)) (rw c.deref-4.ensures.value at c.in_ok-minima_of.ensures)
