@@ -1,9 +1,8 @@
 -- What is yet to be given of the text of transactions, one after another.
-use Rattle.std.specs.Prelude.{◌≡◌, ◌<◌, ◌≤◌, ◌+◌, ◌-◌, ◌*◌, ◌++◌, ℕ, List, [], ◌∷◌, Option, None, Some, drop, length, vec_capacity, ⊤}
+use Rattle.std.specs.Prelude.{◌≡◌, ◌≤◌, ◌+◌, ◌-◌, ◌*◌, ◌++◌, ℕ, List, [], ◌∷◌, Option, None, Some, length, vec_capacity, ⊤}
 use Rattle.std.specs.List.{concat}
 use Rattle.si_audit.specs.declared.giving.Giving.{Giving}
 use Rattle.si_audit.specs.declared.giving.Stretch.{Stretch}
-use Rattle.si_audit.specs.Sheet.{text_on}
 
 -- the texts of the numbers from this one on
 abbrev pub AreTexts : (ℕ → List ℕ → Type 0) → ℕ → List (List ℕ) → Type 0
@@ -21,27 +20,14 @@ pub record CanFill {R : Type 0} (count most : ℕ) (s : Stretch R) : Type 0 wher
   pub row : s.row ≤ length s.rows.items
   pub next : s.next ≤ s.end
   pub end : s.end ≤ count
-  pub size : 72 ≤ length s.sheet.bytes.items
 
--- the text is what stands on the sheet, what the rows tell, and what is told of the transactions from the next one on
+-- the text is what the rows tell, and what is told of the transactions from the next one on
 abbrev pub IsLeft : {R : Type 0} → (ℕ → List ℕ → Type 0) → (ℕ → List R → ℕ → List ℕ) → Stretch R → List ℕ → Type 0
-IsLeft Tells text_of s text = (rest : List ℕ) × IsTextOf Tells s.next s.end rest
-    × (text ≡ drop s.sheet.given (text_on s.sheet) ++ text_of (s.next - 1) s.rows.items s.row ++ rest)
+IsLeft Tells text_of s text = (rest : List ℕ) × IsTextOf Tells s.next s.end rest × (text ≡ text_of (s.next - 1) s.rows.items s.row ++ rest)
 
 -- how many rows and transactions are left at most
 abbrev pub rows_left : {R : Type 0} → Stretch R → ℕ
 rows_left s = (s.end - s.next) * (vec_capacity s.rows + 1) + (length s.rows.items - s.row)
-
--- how many bytes, rows and transactions are left at most, where each row counts as much as a full sheet
-abbrev pub steps_left : {R : Type 0} → Stretch R → ℕ
-steps_left s = rows_left s * (length s.sheet.bytes.items + 1) + (s.sheet.end - s.sheet.given)
-
--- rows were put on the sheet, or transactions without rows were passed, if there were any and it had room
-pub record Fills {R : Type 0} (old new : Stretch R) : Type 0 where
-  pub size : length new.sheet.bytes.items ≡ length old.sheet.bytes.items
-  pub given : new.sheet.given ≡ old.sheet.given
-  pub most : rows_left new ≤ rows_left old
-  pub fewer : 0 < rows_left old → old.sheet.end + 72 ≤ length old.sheet.bytes.items → rows_left new < rows_left old
 
 -- what is told can be given, if it is told
 abbrev pub CanGive : {T R : Type 0} → (T → Type 0) → (T → ℕ) → (T → ℕ) → Option (Giving T R) → Type 0
@@ -55,4 +41,4 @@ IsLeftOf tells text_of (Some g) text = IsLeft (tells g.told) (text_of g.told) g.
 
 abbrev pub left_of : {T R : Type 0} → Option (Giving T R) → ℕ
 left_of None = 0
-left_of (Some g) = steps_left g.stretch
+left_of (Some g) = rows_left g.stretch

@@ -3,6 +3,7 @@ use crate::edge_lines::EdgeLines;
 use crate::engine::Outcome;
 use crate::giving::Giving;
 use crate::pivot_lines::PivotLines;
+use crate::sheet::Sheet;
 use crate::spelled::Spelled;
 use sia_graph::Neighbour;
 use sia_index::Index;
@@ -40,9 +41,13 @@ pub struct Answer {
     pub(crate) back: Vec<u8>,
 }
 
-/// A report, which gives its bytes in pieces. It has all the memory that it needs.
+/// A report, which shows its bytes piece by piece. It has all the memory that it needs.
 #[derive(Drop)]
 pub struct Report<'a> {
+    /// The piece that is shown: this one, or what stands on the sheet, if this is empty.
+    pub(crate) shown: &'a [u8],
+    pub(crate) sheet: Sheet,
+    /// What comes behind it.
     pub(crate) front: &'a [u8],
     pub(crate) edges: Option<Giving<EdgeLines<'a>, EdgeTo>>,
     pub(crate) pivots: Option<Giving<PivotLines<'a>, Neighbour>>,
@@ -50,11 +55,18 @@ pub struct Report<'a> {
 }
 
 impl<'a> Model for Report<'a> {
-    ghost use Rattle.si_audit.specs.Left.{CanGiveEdges, CanGivePivots, Left};
+    ghost use Rattle.si_audit.specs.Left.{CanGiveEdges, CanGivePivots, Left, first_of};
+    ghost use Rattle.si_audit.specs.Sheet.{text_on};
 
     ghost Value = { Left };
 
-    ghost view = { λ r. record { front = r.front.now; edges = r.edges; pivots = r.pivots; back = r.back.now } };
+    ghost view = { λ r. record {
+      piece = first_of r.shown.now (text_on r.sheet);
+      front = r.front.now;
+      edges = r.edges;
+      pivots = r.pivots;
+      back = r.back.now;
+    } };
 
     ghost invariant = { λ r. CanGiveEdges r.edges × CanGivePivots r.pivots };
 }

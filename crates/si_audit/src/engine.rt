@@ -1,5 +1,5 @@
 //! The engine: a text goes in, a report comes out, and it knows no device.
-ghost use Rattle.std.specs.Prelude.{◌≡◌, ◌+◌, ◌<◌, ◌≤◌, ◌++◌, ℕ, List, [], ⊤, flat_map, length, vec_capacity, IfOk, IfSome, IsSome, MatchOption, OnOk, IsFalse, IsTrue, ◌↔◌};
+ghost use Rattle.std.specs.Prelude.{◌≡◌, ◌+◌, ◌<◌, ◌≤◌, ◌++◌, ℕ, List, [], ⊤, flat_map, length, IfOk, IfSome, IsSome, MatchOption, OnOk, IsFalse, IsTrue, ◌↔◌};
 ghost use Rattle.sia_events.specs.Limits.{Limits};
 ghost use Rattle.si_audit.specs.Options.{Choices};
 ghost use Rattle.si_audit.specs.Engine.{AreLinesOf, EndsFed, HasText, IsFed, TellsFed, IsReceived, IsReportOf, IsOutcomeOf};
@@ -26,7 +26,7 @@ use crate::giving::{Giving, give_told};
 use crate::options::{Form, Level, Options};
 use crate::pivot_lines::PivotLines;
 use crate::report::{push_back, push_front, push_refusal};
-use crate::sheet::give_front;
+use crate::sheet::{ROOM, SHEET, Sheet};
 use crate::snapshots::is_generalized;
 use crate::spelled::Spelled;
 use sia_events::{Locator, Log, NoMemory, TextFault, TextReader};
@@ -35,6 +35,7 @@ use sia_index::make::index_log;
 use sia_index::{Index, counted};
 use sia_parts::{Accesses, Edge, Gathering};
 use std::alloc::Global;
+use std::mem::take;
 use std::sync::Wait;
 use std::thread::Threads;
 
@@ -119,13 +120,15 @@ impl<'a> Auditor<'a> {
 }
 
 impl Answer {
-    /// The report, of which nothing is given yet. It takes all the memory that it needs.
+    /// The report, of which nothing is shown yet. It takes all the memory that it needs.
     pub fn report(&self, alloc: Global) -> Result<Report<'_>, NoMemory>
         ensures { IfOk result (λ report. (bytes : List ℕ) → HasText self.now bytes → IsYet report bytes) }
     {
         let (front, back) = (&*self.front, &*self.back);
         let Some(found) = &self.found else {
             return Ok(Report {
+                shown: &[],
+                sheet: Sheet::with_size(alloc, ROOM)?,
                 front,
                 edges: None,
                 pivots: None,
@@ -135,6 +138,8 @@ impl Answer {
         let edges = Giving::of(alloc, EdgeLines::of(alloc, found)?)?;
         let pivots = Giving::of(alloc, PivotLines::of(alloc, found)?)?;
         Ok(Report {
+            shown: &[],
+            sheet: Sheet::with_size(alloc, SHEET)?,
             front,
             edges: Some(edges),
             pivots: Some(pivots),
@@ -144,27 +149,36 @@ impl Answer {
 }
 
 impl Report<'_> {
-    /// Gives the next bytes into a buffer that has room, and answers whether there were any. Takes no memory.
-    pub fn give(&mut self, buffer: &mut Vec<u8>) -> bool
-        requires room { length buffer.old.items < vec_capacity buffer.old }
-        ensures gives { (bytes : List ℕ) → IsYet self.old bytes → (piece : List ℕ) × (rest : List ℕ)
-            × (bytes ≡ piece ++ rest) × IsYet self.new rest × (buffer.new.items ≡ buffer.old.items ++ piece) }
-        ensures end { IsFalse result → ((bytes : List ℕ) → IsYet self.old bytes → bytes ≡ [])
-            × (buffer.new.items ≡ buffer.old.items) }
-        ensures some { IsTrue result → length buffer.old.items < length buffer.new.items }
+    /// Makes the next piece, and answers whether there is one. Takes no memory.
+    pub fn advance(&mut self) -> bool
+        ensures gives { (bytes : List ℕ) → IsYet self.old bytes → (rest : List ℕ)
+            × (bytes ≡ self.new.piece ++ rest) × IsYet self.new rest }
+        ensures end { IsFalse result → (bytes : List ℕ) → IsYet self.old bytes → bytes ≡ [] }
+        ensures some { IsTrue result → 0 < length self.new.piece }
         ensures fewer { IsTrue result → bytes_left self.new < bytes_left self.old }
-        ensures room { vec_capacity buffer.old ≤ vec_capacity buffer.new }
     {
-        if give_front(&mut self.front, buffer) {
+        self.shown = take(&mut self.front);
+        if !self.shown.is_empty() {
             return true;
         }
-        if give_told(&mut self.edges, buffer) {
+        if give_told(&mut self.edges, &mut self.sheet) {
             return true;
         }
-        if give_told(&mut self.pivots, buffer) {
+        if give_told(&mut self.pivots, &mut self.sheet) {
             return true;
         }
-        give_front(&mut self.back, buffer)
+        self.shown = take(&mut self.back);
+        !self.shown.is_empty()
+    }
+
+    /// The piece.
+    pub fn piece(&self) -> &[u8]
+        ensures { result.now ≡ self.now.piece }
+    {
+        if self.shown.is_empty() {
+            return self.sheet.text();
+        }
+        self.shown
     }
 }
 

@@ -1,15 +1,13 @@
 //! What is told of the committed transactions, made as it is given: nothing is kept behind its bytes.
-ghost use Rattle.std.specs.Prelude.{◌≡◌, ◌↔◌, ◌+◌, ◌++◌, ◌<◌, ◌≤◌, [], ℕ, List, IfOk, IsFalse, IsTrue, length, vec_capacity};
-ghost use Rattle.si_audit.specs.Giving.{CanFill, CanGive, Fills, IsLeft, IsLeftOf, IsTextOf, left_of, steps_left};
+ghost use Rattle.std.specs.Prelude.{◌≡◌, ◌++◌, ◌<◌, [], ℕ, List, None, IfOk, IsFalse, IsTrue};
+ghost use Rattle.si_audit.specs.Giving.{CanFill, CanGive, IsLeft, IsLeftOf, IsTextOf, left_of, rows_left};
+ghost use Rattle.si_audit.specs.Sheet.{text_on};
 
 use crate::sheet::{ROOM, Sheet};
 use crate::told::Told;
 use sia_events::NoMemory;
 use sia_index::ordering::Sorter;
 use std::alloc::Global;
-
-/// How many bytes are made at once.
-const SHEET: usize = 65_536;
 
 /// A stretch of the transactions.
 #[derive(Drop)]
@@ -21,30 +19,25 @@ pub(crate) struct Stretch<R> {
     /// The next transaction, and the one before which the stretch ends.
     pub(crate) next: u32,
     pub(crate) end: u32,
-    pub(crate) sheet: Sheet,
 }
 
 impl<R: Copy + Ord + Drop> Stretch<R> {
-    /// Whether all of it stands on the sheet.
-    fn is_over(&self) -> bool
-        ensures { IsTrue result ↔ (length self.now.rows.items ≤ self.now.row) × (self.now.end ≤ self.now.next) }
-    {
-        self.rows.len() <= self.row && self.end <= self.next
-    }
-
-    /// Fills the sheet, as far as it has room.
-    fn fill<T: Told<Row = R>>(&mut self, told: &T)
+    /// Puts what comes next on the sheet, as far as it has room.
+    fn fill<T: Told<Row = R>>(&mut self, told: &T, sheet: &mut Sheet)
         requires ready { T.is_ready told.now }
         requires can { CanFill (T.count told.now) (T.most told.now) self.old }
         ensures can { CanFill (T.count told.now) (T.most told.now) self.new }
-        ensures left { (text : List ℕ) → IsLeft (T.tells told.now) (T.text told.now) self.old text
-            → IsLeft (T.tells told.now) (T.text told.now) self.new text }
-        ensures fills { Fills self.old self.new }
+        ensures left { (text : List ℕ) → IsLeft (T.tells told.now) (T.text told.now) self.old text → (rest : List ℕ)
+            × (text ≡ text_on sheet.new ++ rest) × IsLeft (T.tells told.now) (T.text told.now) self.new rest }
+        ensures end { sheet.new.end ≡ 0 → (text : List ℕ)
+            → IsLeft (T.tells told.now) (T.text told.now) self.new text → text ≡ [] }
+        ensures fewer { 0 < sheet.new.end → rows_left self.new < rows_left self.old }
     {
-        'filling: while self.sheet.end + ROOM <= self.sheet.bytes.len() {
+        sheet.end = 0;
+        'filling: while sheet.end + ROOM <= sheet.bytes.len() {
             if self.row < self.rows.len() {
                 let number = self.next.saturating_sub(1);
-                self.row = told.put_rows(number, &self.rows, self.row, &mut self.sheet);
+                self.row = told.put_rows(number, &self.rows, self.row, sheet);
             } else if self.next < self.end {
                 told.put_of(self.next, &mut self.rows, &mut self.sorter);
                 self.row = 0;
@@ -79,62 +72,32 @@ impl<R: Copy + Ord + Drop, T: Told<Row = R> + Drop> Giving<T, R> {
             sorter: Sorter::with_capacity(alloc, most)?,
             next: 0,
             end: told.count(),
-            sheet: Sheet::with_size(alloc, SHEET)?,
         };
         Ok(Giving { told, stretch })
     }
-
-    /// Gives bytes into a buffer that has room, and answers whether there were any. Takes no memory.
-    pub(crate) fn give(&mut self, buffer: &mut Vec<u8>) -> bool
-        requires ready { T.is_ready self.old.told }
-        requires can { CanFill (T.count self.old.told) (T.most self.old.told) self.old.stretch }
-        requires room { length buffer.old.items < vec_capacity buffer.old }
-        ensures told { self.new.told ≡ self.old.told }
-        ensures can { CanFill (T.count self.old.told) (T.most self.old.told) self.new.stretch }
-        ensures gives { (text : List ℕ) → IsLeft (T.tells self.old.told) (T.text self.old.told) self.old.stretch text
-            → (piece : List ℕ) × (rest : List ℕ) × (text ≡ piece ++ rest)
-            × IsLeft (T.tells self.old.told) (T.text self.old.told) self.new.stretch rest
-            × (buffer.new.items ≡ buffer.old.items ++ piece) }
-        ensures end { IsFalse result → ((text : List ℕ)
-            → IsLeft (T.tells self.old.told) (T.text self.old.told) self.old.stretch text → text ≡ [])
-            × (buffer.new.items ≡ buffer.old.items) }
-        ensures some { IsTrue result → length buffer.old.items < length buffer.new.items }
-        ensures fewer { IsTrue result → steps_left self.new.stretch < steps_left self.old.stretch }
-        ensures room { vec_capacity buffer.old ≤ vec_capacity buffer.new }
-    {
-        'giving: while !self.stretch.sheet.give(buffer) {
-            if self.stretch.is_over() {
-                return false;
-            }
-            self.stretch.fill(&self.told);
-        }
-        true
-    }
 }
 
-/// Gives bytes of what is told, if it is told, as `give` does. Where there were none it is let go.
+/// Puts what is told next on the sheet, if it is told, and answers whether there was any. Where there was none it is let go, and the
+/// sheet is empty. Takes no memory.
 pub(crate) fn give_told<R: Copy + Ord + Drop, T: Told<Row = R> + Drop>(
     giving: &mut Option<Giving<T, R>>,
-    buffer: &mut Vec<u8>,
+    sheet: &mut Sheet,
 ) -> bool
     requires can { CanGive T.is_ready T.count T.most giving.old }
-    requires room { length buffer.old.items < vec_capacity buffer.old }
     ensures can { CanGive T.is_ready T.count T.most giving.new }
-    ensures gives { (text : List ℕ) → IsLeftOf T.tells T.text giving.old text
-        → (piece : List ℕ) × (rest : List ℕ) × (text ≡ piece ++ rest)
-        × IsLeftOf T.tells T.text giving.new rest × (buffer.new.items ≡ buffer.old.items ++ piece) }
-    ensures end { IsFalse result → ((text : List ℕ) → IsLeftOf T.tells T.text giving.old text → text ≡ [])
-        × IsLeftOf T.tells T.text giving.new [] × (left_of giving.new ≡ 0)
-        × (buffer.new.items ≡ buffer.old.items) }
-    ensures some { IsTrue result → length buffer.old.items < length buffer.new.items }
+    ensures gives { (text : List ℕ) → IsLeftOf T.tells T.text giving.old text → (rest : List ℕ)
+        × (text ≡ text_on sheet.new ++ rest) × IsLeftOf T.tells T.text giving.new rest }
+    ensures end { IsFalse result → (giving.new ≡ None) × (sheet.new.end ≡ 0) }
     ensures fewer { IsTrue result → left_of giving.new < left_of giving.old }
-    ensures room { vec_capacity buffer.old ≤ vec_capacity buffer.new }
+    ensures some { IsTrue result → 0 < sheet.new.end }
 {
     if let Some(some) = &mut *giving {
-        if some.give(buffer) {
+        some.stretch.fill(&some.told, sheet);
+        if sheet.end > 0 {
             return true;
         }
     }
     *giving = None;
+    sheet.end = 0;
     false
 }

@@ -1,5 +1,5 @@
 //! A run is two loops: a text is read to its end, or past the limit, and its report is written out whole.
-ghost use Rattle.std.specs.Prelude.{◌≡◌, ◌≢◌, ◌↔◌, ◌+◌, ◌≤◌, ℕ, List, ◌++◌, IfOk, IfErr, IfSome, OnOk, Err, IsTrue, IsFalse, ◌<◌, vec_capacity, OnErr, IsErr};
+ghost use Rattle.std.specs.Prelude.{◌≡◌, ◌≢◌, ◌↔◌, ◌+◌, ◌≤◌, ℕ, List, ◌++◌, IfOk, IfErr, IfSome, OnOk, Err, IsTrue, IsFalse, OnErr, IsErr};
 ghost use Rattle.std.specs.Io.KnownBytes.{Appends, Keeps};
 ghost use Rattle.si_audit.specs.Report.{IsReport};
 ghost use Rattle.si_audit.specs.Outcomes.{IsOutcome, status_of};
@@ -17,7 +17,7 @@ use std::sync::Wait;
 use std::thread::Threads;
 use thiserror::Error;
 
-/// How many bytes a piece of the text or of the report mostly has.
+/// How many bytes a piece of the text mostly has.
 const PIECE: usize = 65_536;
 
 /// Why a run ended before its report was written.
@@ -142,10 +142,7 @@ fn write_report<W: Sink>(alloc: Global, writer: &mut W, a: &Answer) -> Result<Ou
         → (bytes : List ℕ) → HasText a.now bytes
         → Appends (W.taken writer.old) (W.taken writer.new) bytes }
 {
-    let Ok(mut buffer) = Vec::with_capacity(alloc, PIECE) else {
-        return Err(RunFault::NoMemory);
-    };
-    let written = write_whole(writer, &mut a.report(alloc)?, &mut buffer);
+    let written = write_whole(writer, &mut a.report(alloc)?);
     match written {
         Ok(()) => Ok(a.outcome),
         Err(Failed) => Err(RunFault::Write),
@@ -171,14 +168,9 @@ fn write_bytes<W: Sink>(writer: &mut W, bytes: &[u8]) -> Result<(), Failed>
     Ok(())
 }
 
-/// Writes what the report gives, piece by piece, through a buffer, and flushes once.
-fn write_whole<W: Sink>(
-    writer: &mut W,
-    report: &mut Report,
-    buffer: &mut Vec<u8>,
-) -> Result<(), Failed>
-    requires sound { IsFalse (W.has_failed writer.old) }
-    requires room { 0 < vec_capacity buffer.old }
+/// Writes the report, piece by piece, and flushes once.
+fn write_whole<W: Sink>(writer: &mut W, report: &mut Report) -> Result<(), Failed>
+    requires { IsFalse (W.has_failed writer.old) }
     ensures front { OnErr result ((bytes : List ℕ) → IsYet report.old bytes
         → (front : List ℕ) × (rest : List ℕ) × (bytes ≡ front ++ rest)
         × Appends (W.taken writer.old) (W.taken writer.new) front) }
@@ -187,10 +179,8 @@ fn write_whole<W: Sink>(
     ensures failed { IsTrue (W.has_failed writer.new) ↔ IsErr result }
     ensures flushed { OnOk result (IsTrue (W.is_flushed writer.new)) }
 {
-    buffer.clear();
-    'giving: while report.give(buffer) {
-        write_bytes(writer, buffer.as_slice())?;
-        buffer.clear();
+    'giving: while report.advance() {
+        write_bytes(writer, report.piece())?;
     }
     writer.flush()
 }

@@ -1,5 +1,5 @@
-//! Bytes that are made ahead, and given piece by piece.
-ghost use Rattle.std.specs.Prelude.{◌≡◌, ◌+◌, ◌<◌, ◌≤◌, ◌++◌, [], ℕ, List, IfOk, IsFalse, IsTrue, drop, length, map, slice_index_or, take, vec_capacity};
+//! Bytes of lines that are made ahead, and shown piece by piece.
+ghost use Rattle.std.specs.Prelude.{◌≡◌, ◌+◌, ◌<◌, ◌≤◌, ◌++◌, [], length, map, slice_index_or, take};
 ghost use Rattle.sia_events.specs.Text.{numeral};
 ghost use Rattle.si_audit.specs.Blocks.{word_in, word_len};
 
@@ -7,74 +7,38 @@ use itoa::write_digits;
 use sia_events::NoMemory;
 use std::alloc::Global;
 
-/// What a sheet has room for where it has some: a line.
+/// How many bytes are made at once.
+pub(crate) const SHEET: usize = 65_536;
+
+/// What an empty sheet has room for at least: a line.
 pub(crate) const ROOM: usize = 72;
 
-/// A sheet, which is filled again when all of it was given.
+/// A sheet, on which bytes are put anew once they were shown.
 #[derive(Drop)]
 pub(crate) struct Sheet {
     pub(crate) bytes: Vec<u8>,
-    /// How many of the bytes stand on it, and how many of these were given.
+    /// How many of the bytes stand on it.
     pub(crate) end: usize,
-    pub(crate) given: usize,
-    ghost bounds: { (given ≤ end) × (end ≤ length bytes.items) },
+    ghost bounds: { (end ≤ length bytes.items) × (72 ≤ length bytes.items) },
 }
 
 impl Sheet {
     /// An empty sheet.
     pub(crate) fn with_size(alloc: Global, size: usize) -> Result<Sheet, NoMemory>
-        ensures { IfOk result (λ sheet. (sheet.end ≡ 0) × (sheet.given ≡ 0) × (length sheet.bytes.items ≡ size)) }
+        requires { 72 ≤ size }
     {
         Ok(Sheet {
             bytes: vec![in alloc; 0; size]?,
             end: 0,
-            given: 0,
         })
     }
 
-    /// Gives as many bytes as the buffer has room for, and answers whether there were any. Where there are none the sheet is empty.
-    pub(crate) fn give(&mut self, buffer: &mut Vec<u8>) -> bool
-        requires room { length buffer.old.items < vec_capacity buffer.old }
-        ensures gives { (piece : List ℕ) × (drop self.old.given (take self.old.end self.old.bytes.items)
-            ≡ piece ++ drop self.new.given (take self.new.end self.new.bytes.items))
-            × (buffer.new.items ≡ buffer.old.items ++ piece) }
-        ensures end { IsFalse result → (self.old.end ≡ self.old.given) × (self.new.end ≡ 0) × (self.new.given ≡ 0)
-            × (buffer.new.items ≡ buffer.old.items) }
-        ensures some { IsTrue result → (length buffer.old.items < length buffer.new.items)
-            × (self.old.given < self.new.given) × (self.new.end ≡ self.old.end) }
-        ensures size { length self.new.bytes.items ≡ length self.old.bytes.items }
-        ensures room { vec_capacity buffer.old ≤ vec_capacity buffer.new }
+    /// What stands on it.
+    pub(crate) fn text(&self) -> &[u8]
+        ensures { result.now ≡ take self.now.end self.now.bytes.items }
     {
-        let mut rest = &self.bytes[self.given..self.end];
-        let before = rest.len();
-        let some = give_front(&mut rest, buffer);
-        self.given += before - rest.len();
-        if !some {
-            self.end = 0;
-            self.given = 0;
-        }
-        some
+        &self.bytes[..self.end]
     }
-}
-
-/// Gives the first of the bytes into a buffer, as many as it has room for, and answers whether there were any.
-pub(crate) fn give_front(bytes: &mut &[u8], buffer: &mut Vec<u8>) -> bool
-    requires room { length buffer.old.items < vec_capacity buffer.old }
-    ensures gives { (piece : List ℕ) × (bytes.old.now ≡ piece ++ bytes.new.now)
-        × (buffer.new.items ≡ buffer.old.items ++ piece) }
-    ensures end { IsFalse result → (bytes.old.now ≡ []) × (bytes.new.now ≡ [])
-        × (buffer.new.items ≡ buffer.old.items) }
-    ensures some { IsTrue result → length buffer.old.items < length buffer.new.items }
-    ensures fewer { IsTrue result → length bytes.new.now < length bytes.old.now }
-    ensures room { vec_capacity buffer.old ≤ vec_capacity buffer.new }
-{
-    let rest = *bytes;
-    let n = rest.len().min(buffer.capacity() - buffer.len());
-    let Ok(()) = buffer.extend_from_slice(&rest[..n]) else {
-        unreachable!()
-    };
-    *bytes = &rest[n..];
-    n > 0
 }
 
 /// Some bytes of a line, and in the last byte how many. All of it is copied where they are put: a length that is known is faster.

@@ -21,17 +21,16 @@ returns-clause-front g c = on_err _ c.flush.result (λ bytes yet.
 pub returns-clause-whole : goal.returns-clause-whole
 returns-clause-whole g c _ bytes yet =
     let before = c.giving.invariant.written bytes yet in
-    all_written _ _ _ bytes before.0 before.1 before.2 ((c.giving-test.ensures.end refl).0 before.1 before.3) before.4 c.flush.ensures.bytes
+    all_written _ _ _ bytes before.0 before.1 before.2 (c.giving-test.ensures.end refl before.1 before.3) before.4 c.flush.ensures.bytes
 
 pub returns-in_err-write_bytes-clause-front : goal.returns-in_err-write_bytes-clause-front
 returns-in_err-write_bytes-clause-front g c = on_err _ c.from_residual.result (λ bytes yet.
     let before = c.giving.invariant.written bytes yet in
-    let piece = c.give.ensures.gives before.1 before.3 in
-    let whole : piece.0 ≡ c.as_slice.result.now = sym (c.as_slice.ensures.value ∙ piece.4 ∙ ap (λ (xs : List ℕ). xs ++ piece.0) c.giving.invariant.empty) in
+    let (rest, split, yet_more) = c.advance.ensures.gives before.1 before.3 in
     let part = c.in_err-write_bytes.ensures.err in (
       before.0 ++ part.0,
-      part.1 ++ piece.1,
-      before.2 ∙ ap (λ (xs : List ℕ). before.0 ++ xs) (piece.2 ∙ ap (λ (xs : List ℕ). xs ++ piece.1) (whole ∙ part.2) ∙ append_assoc part.0 part.1 piece.1) ∙ sym (append_assoc before.0 part.0 (part.1 ++ piece.1)),
+      part.1 ++ rest,
+      before.2 ∙ ap (λ (xs : List ℕ). before.0 ++ xs) (split ∙ ap (λ (xs : List ℕ). xs ++ rest) (sym c.piece.ensures ∙ part.2) ∙ append_assoc part.0 part.1 rest) ∙ sym (append_assoc before.0 part.0 (part.1 ++ rest)),
       Appends-trans _ _ _ _ _ before.4 part.3,
     ))
 
@@ -39,15 +38,13 @@ pub giving-preserved : goal.giving-preserved
 giving-preserved g c = record {
   written = λ bytes yet.
       let before = c.giving.invariant.written bytes yet in
-      let piece = c.give.ensures.gives before.1 before.3 in (
-        before.0 ++ piece.0,
-        piece.1,
-        before.2 ∙ ap (λ (xs : List ℕ). before.0 ++ xs) piece.2 ∙ sym (append_assoc before.0 piece.0 piece.1),
-        piece.3,
-        Appends-trans _ _ _ _ _ before.4 (subst (Appends (g.W.Sink.taken c.giving.writer) (g.W.Sink.taken c.write_bytes.new.writer)) (c.as_slice.ensures.value ∙ piece.4 ∙ ap (λ (xs : List ℕ). xs ++ piece.0) c.giving.invariant.empty) c.in_ok-write_bytes.ensures.ok),
+      let (rest, split, yet_more) = c.advance.ensures.gives before.1 before.3 in (
+        before.0 ++ c.advance.new.self.piece,
+        rest,
+        before.2 ∙ ap (λ (xs : List ℕ). before.0 ++ xs) split ∙ sym (append_assoc before.0 c.advance.new.self.piece rest),
+        yet_more,
+        Appends-trans _ _ _ _ _ before.4 (subst (Appends (g.W.Sink.taken c.giving.writer) (g.W.Sink.taken c.write_bytes.new.writer)) c.piece.ensures c.in_ok-write_bytes.ensures.ok),
       );
   sound = search rules;
   open_still = search rules;
-  empty = search rules;
-  room = search rules;
 }
