@@ -7,28 +7,28 @@ use crate::sheet::Sheet;
 use crate::spelled::Spelled;
 use sia_graph::Neighbour;
 use sia_index::Index;
-use sia_parts::{Accesses, EdgeTo};
+use sia_parts::{EdgeTo, Ordered};
 use std::marker::Model;
 
 /// What the lines of edges and of pivots are made from.
 #[derive(Drop)]
 pub struct Found {
     pub(crate) index: Index,
-    pub(crate) accesses: Accesses,
+    pub(crate) ordered: Ordered,
     pub(crate) spelled: Spelled,
 }
 
 impl Model for Found {
     ghost use Rattle.std.specs.Prelude.{List, ⊤};
     ghost use Rattle.sia_events.specs.declared.event.Event.{Event};
-    ghost use Rattle.sia_parts.specs.Accesses.{AreAccesses};
+    ghost use Rattle.sia_parts.specs.EdgeRows.{AreOrdered};
     ghost use Rattle.si_audit.specs.Spelled.{AreSpelled};
 
     ghost Value = { List Event };
 
     ghost view = { λ f. f.index };
 
-    ghost invariant = { λ f. AreAccesses f.index (λ _. ⊤) f.accesses × AreSpelled f.index f.spelled };
+    ghost invariant = { λ f. AreOrdered f.index (λ _. ⊤) f.ordered × AreSpelled f.index f.spelled };
 }
 
 /// What a text comes to: how its run ends, and its report.

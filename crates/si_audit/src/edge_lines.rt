@@ -1,5 +1,5 @@
 //! The lines of all edges, source by source.
-ghost use Rattle.std.specs.Prelude.{◌≡◌, ◌+◌, ◌++◌, ◌≤◌, ℕ, List, ⊤, IfOk, length};
+ghost use Rattle.std.specs.Prelude.{◌≡◌, ◌+◌, ◌++◌, ◌≤◌, ℕ, List, ⊤, length};
 ghost use Rattle.std.proofs.Common.{ap, flat_map, le_refl};
 ghost use Rattle.std.proofs.lemmas.List.{drop_all};
 ghost use Rattle.sia_parts.specs.EdgeRows.{row_bound};
@@ -10,10 +10,8 @@ use crate::answer::Found;
 use crate::sheet::{ROOM, Sheet, Word, put};
 use crate::spelled::Spelled;
 use crate::told::Told;
-use sia_events::NoMemory;
 use sia_index::ordering::Sorter;
 use sia_parts::{EdgeTo, Edges};
-use std::alloc::Global;
 
 /// What the lines of edges are made from.
 #[derive(Drop)]
@@ -24,20 +22,18 @@ pub(crate) struct EdgeLines<'a> {
 }
 
 impl<'a> EdgeLines<'a> {
-    /// Takes all the memory that they need.
-    pub(crate) fn of(alloc: Global, found: &'a Found) -> Result<EdgeLines<'a>, NoMemory>
-        ensures ready { IfOk result AreReady }
-        ensures all { IfOk result (λ lines. (text : List ℕ) → AreEdgeLines found.now text
-            → IsTextOf (AreLinesFrom lines.edges.index.now) 0 lines.count text) }
+    pub(crate) fn of(found: &'a Found) -> EdgeLines<'a>
+        ensures ready { AreReady result }
+        ensures all { (text : List ℕ) → AreEdgeLines found.now text
+            → IsTextOf (AreLinesFrom result.edges.index.now) 0 result.count text }
     {
         let index = &found.index;
         index.law();
-        let txns = index.committed();
-        Ok(EdgeLines {
-            edges: Edges::of(alloc, index, &found.accesses, None)?,
+        EdgeLines {
+            edges: Edges::of(index, &found.ordered, None),
             spelled: &found.spelled,
-            count: txns.len() as u32,
-        })
+            count: index.committed().len() as u32,
+        }
     }
 }
 

@@ -33,7 +33,7 @@ use sia_events::{Locator, Log, NoMemory, TextFault, TextReader};
 use sia_graph::{Judgement, Pivot, judge, listing_law};
 use sia_index::make::index_log;
 use sia_index::{Index, counted};
-use sia_parts::{Accesses, Edge, Gathering};
+use sia_parts::{Accesses, Edge, Gathering, Ordered};
 use std::alloc::Global;
 use std::mem::take;
 use std::sync::Wait;
@@ -135,7 +135,7 @@ impl Answer {
                 back,
             });
         };
-        let edges = Giving::of(alloc, EdgeLines::of(alloc, found)?)?;
+        let edges = Giving::of(alloc, EdgeLines::of(found))?;
         let pivots = Giving::of(alloc, PivotLines::of(alloc, found)?)?;
         Ok(Report {
             shown: &[],
@@ -310,10 +310,12 @@ fn in_full(
 {
     index.law();
     listing_law();
+    let ordered = Ordered::of(alloc, &index, &accesses)?;
+    drop(accesses);
     let spelled = Spelled::of(alloc, &index)?;
     let found = Found {
         index,
-        accesses,
+        ordered,
         spelled,
     };
     told(alloc, outcome, j, Some(found))

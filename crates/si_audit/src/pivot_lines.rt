@@ -11,7 +11,7 @@ use crate::sheet::{ROOM, Sheet, Word, put};
 use crate::spelled::Spelled;
 use crate::told::Told;
 use sia_events::{NoMemory, TxnId};
-use sia_graph::{Evidence, Neighbour, Neighbours};
+use sia_graph::{Neighbour, Neighbours};
 use sia_index::ordering::Sorter;
 use std::alloc::Global;
 
@@ -38,13 +38,9 @@ impl<'a> PivotLines<'a> {
     {
         let index = &found.index;
         index.law();
-        let evidence = Evidence {
-            index,
-            accesses: &found.accesses,
-        };
         let txns = index.committed();
         Ok(PivotLines {
-            neighbours: Neighbours::of(alloc, evidence)?,
+            neighbours: Neighbours::of(alloc, index, &found.ordered)?,
             spelled: &found.spelled,
             txns,
             count: txns.len() as u32,

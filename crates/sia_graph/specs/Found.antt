@@ -1,17 +1,16 @@
 -- What the neighbours of pivots are found by: what each transaction saw and passed over, and who saw a version and passed over a key.
 use Rattle.std.specs.Prelude.{◌≡◌, ◌≢◌, ◌↔◌, ◌+◌, ◌-◌, ◌*◌, ◌<◌, ◌≤◌, ℕ, Bool, true, false, List, [], Contains, length, slice_index_or, vec_capacity}
 use Rattle.std.specs.Global.{Vec}
-use Rattle.std.specs.List.Sorted.{IsNonDecreasingBy, IsPermutation}
+use Rattle.std.specs.List.Sorted.{IsNonDecreasingBy}
 use Rattle.sia_events.specs.declared.event.Event.{Event}
 use Rattle.sia_events.specs.Transactions.{CommitsAt, Overlap}
 use Rattle.sia_index.specs.Lists.{joined}
 use Rattle.sia_index.specs.Minima.{AreMinima}
 use Rattle.sia_index.specs.Numbers.{IsCommittedAt}
-use Rattle.sia_index.specs.Positions.{ArePositions}
 use Rattle.sia_parts.specs.declared.accesses.Accesses.{Accesses}
 use Rattle.sia_parts.specs.declared.accesses.RangeMiss.{RangeMiss}
-use Rattle.sia_parts.specs.declared.edges.Reading.{Reading}
-use Rattle.sia_parts.specs.Accesses.{HasMiss, SawPosition}
+use Rattle.sia_parts.specs.Accesses.{HasMiss}
+use Rattle.sia_parts.specs.EdgeRows.{AreSeen}
 use Rattle.sia_parts.specs.Sights.{Adds, FromSome}
 use Rattle.sia_graph.specs.declared.neighbours.Neighbour.{Neighbour}
 use Rattle.sia_graph.specs.declared.neighbours.Neighbours.{Neighbours}
@@ -20,13 +19,6 @@ use Rattle.sia_graph.specs.declared.neighbours.Role.{Role}
 use Rattle.sia_graph.specs.declared.neighbours.Role.TheVariants.{In, Out, First}
 use Rattle.sia_graph.specs.Evidence.{IsEvidence}
 use Rattle.sia_graph.specs.Neighbours.{HasRole}
-use Rattle.sia_graph.specs.Twos.{HaveOneKey}
-
--- at each position stand those who saw the version there: all of them, where a later version of the key was made
-pub record AreLooks (h : List Event) (a : Accesses) (looks : List (List Reading)) : Type 0 where
-  pub long : ArePositions h (length looks)
-  pub seen : (q : ℕ) (look : Reading) → Contains (slice_index_or looks q []) look → (look.position ≡ q) × SawPosition a look.reader q
-  pub each : (i q p : ℕ) → SawPosition a i q → HaveOneKey h q p → q < p → Contains (slice_index_or looks q []) (record { position = q; reader = i })
 
 -- the range misses of all, each with the number of who has it, by their first keys
 pub record ArePassings (a : Accesses) (passings : List Passing) : Type 0 where
@@ -34,31 +26,27 @@ pub record ArePassings (a : Accesses) (passings : List Passing) : Type 0 where
   pub rise : IsNonDecreasingBy (λ p. p.from) passings
 
 abbrev pub saw_of : Neighbours → ℕ → List ℕ
-saw_of n i = slice_index_or n.saw i []
+saw_of n i = slice_index_or n.evidence.accesses.now.saw i []
 
 abbrev pub missed_of : Neighbours → ℕ → List RangeMiss
-missed_of n i = slice_index_or n.missed i []
+missed_of n i = slice_index_or n.evidence.accesses.now.missed i []
 
 -- neighbours can be found
 pub record CanFind (n : Neighbours) : Type 0 where
   pub evidence : IsEvidence n.evidence
-  pub saw : (i : ℕ) → IsPermutation (slice_index_or n.evidence.accesses.now.saw i []) (saw_of n i)
-  pub saw_long : length n.evidence.accesses.now.saw ≡ length n.saw
   pub saw_rise : (i : ℕ) → IsNonDecreasingBy (λ q. q) (saw_of n i)
-  pub missed : (i : ℕ) → IsPermutation (slice_index_or n.evidence.accesses.now.missed i []) (missed_of n i)
-  pub missed_long : length n.evidence.accesses.now.missed ≡ length n.missed
   pub missed_rise : (i : ℕ) → IsNonDecreasingBy (λ miss. miss.from) (missed_of n i)
-  pub looks : AreLooks n.evidence.index.now n.evidence.accesses.now n.looks
+  pub looks : AreSeen n.evidence.index.now n.evidence.accesses.now n.looks.now
   pub passings : ArePassings n.evidence.accesses.now n.passings.items
   pub reaches : AreMinima (λ p. 4294967295 - p.to) n.passings.items n.reaches.items
 
 -- how many ins there are at most, counted as often as they are found: each look and each range miss once
 abbrev pub most_ins : Neighbours → ℕ
-most_ins n = length (joined n.looks) + length n.passings.items
+most_ins n = length (joined n.looks.now) + length n.passings.items
 
 -- and of outs: for each position two, to its maker, of what was seen and of what was passed over
 abbrev pub most_outs : Neighbours → ℕ
-most_outs n = 2 * length n.looks
+most_outs n = 2 * length n.looks.now
 
 -- how many rows the neighbours of one take at most, where each out may be a first
 abbrev pub most_found : Neighbours → ℕ
@@ -84,7 +72,7 @@ IsInRow h i u row = (row ≡ record { role = In; txn = u }) × (u ≢ i) × Over
 
 -- of one who saw a version from the one position to before the other
 abbrev pub IsLookerRow : Neighbours → ℕ → ℕ → ℕ → Neighbour → Type 0
-IsLookerRow n i from to row = (q : ℕ) × (from ≤ q) × (q < to) × FromSome (λ look. IsInRow n.evidence.index.now i look.reader) (slice_index_or n.looks q []) row
+IsLookerRow n i from to row = (q : ℕ) × (from ≤ q) × (q < to) × FromSome (IsInRow n.evidence.index.now i) (slice_index_or n.looks.now q []) row
 
 -- of one who passed over key number j, in a range miss from the one place to before the other
 abbrev pub IsPasserRow : Neighbours → ℕ → ℕ → ℕ → ℕ → Neighbour → Type 0

@@ -1,12 +1,12 @@
 //! The neighbours of pivots, found one pivot at a time: none is kept.
-ghost use Rattle.std.specs.Prelude.{◌≡◌, ◌≢◌, ◌<◌, ◌≤◌, ◌+◌, ◌-◌, ◌*◌, ℕ, All, IfOk, OnOk, count_by, length, vec_capacity};
+ghost use Rattle.std.specs.Prelude.{◌≡◌, ◌≢◌, ◌<◌, ◌≤◌, ◌+◌, ◌-◌, ◌*◌, ⊤, ℕ, All, IfOk, OnOk, count_by, length, vec_capacity};
 ghost use Rattle.sia_index.specs.Numbers.{IsCommittedAt};
 ghost use Rattle.sia_index.specs.Positions.{HasPosition};
-ghost use Rattle.sia_parts.specs.EdgeRows.{noted_between};
+ghost use Rattle.sia_parts.specs.EdgeRows.{AreOrdered, noted_between};
 ghost use Rattle.sia_parts.specs.Sights.{FromSome};
 ghost use Rattle.sia_graph.specs.declared.neighbours.Role.TheVariants.{In, Out, First};
 ghost use Rattle.sia_graph.specs.Evidence.{IsEvidence};
-ghost use Rattle.sia_graph.specs.Found.{AreEnds, AreLooks, ArePassings, BeginUpTo, CanFind, HasRoom, InCommits, IsLookerRow, IsPasserRow, OverlapAt, PutsMore, is_out, most_found, most_ins, most_outs};
+ghost use Rattle.sia_graph.specs.Found.{AreEnds, ArePassings, BeginUpTo, CanFind, HasRoom, InCommits, IsLookerRow, IsPasserRow, OverlapAt, PutsMore, is_out, most_found, most_ins, most_outs};
 ghost use Rattle.sia_graph.specs.Links.{EndsBehind, IsVulnerableAt, OverlapsBehind};
 ghost use Rattle.sia_graph.specs.Late.{IsLastOf};
 ghost use Rattle.sia_graph.specs.Neighbours.{AreNeighbours, HasRole};
@@ -17,8 +17,8 @@ use sia_index::keyed::{By, ByKey, ByTxn, place_above};
 use sia_index::lists::Lists;
 use sia_index::minima::{minima_of, next_below};
 use sia_index::ordering::Sorter;
-use sia_index::overlap;
-use sia_parts::{ByPosition, RangeMiss, Reading};
+use sia_index::{Index, overlap};
+use sia_parts::Ordered;
 use std::alloc::Global;
 
 /// What a transaction is to a pivot.
@@ -77,12 +77,10 @@ impl By<Passing> for ByReach {
 /// What the neighbours of each transaction are found by.
 #[derive(Drop)]
 pub struct Neighbours<'a> {
+    /// What each saw and passed over is in order.
     pub evidence: Evidence<'a>,
-    /// What each saw and passed over, in order.
-    pub(crate) saw: Lists<u32>,
-    pub(crate) missed: Lists<RangeMiss>,
-    /// For each position who saw the version there, where a later one of its key was made.
-    pub(crate) looks: Lists<Reading>,
+    /// For each position who saw the version there.
+    pub(crate) looks: &'a Lists<u32>,
     /// All range misses, by their first keys, and a tree over how far they reach.
     pub(crate) passings: Vec<Passing>,
     pub(crate) reaches: Vec<u64>,
@@ -90,21 +88,23 @@ pub struct Neighbours<'a> {
 
 impl<'a> Neighbours<'a> {
     /// Takes all the memory that they need.
-    pub fn of(alloc: Global, evidence: Evidence<'a>) -> Result<Neighbours<'a>, NoMemory>
-        requires { IsEvidence evidence }
+    pub fn of(
+        alloc: Global,
+        index: &'a Index,
+        ordered: &'a Ordered,
+    ) -> Result<Neighbours<'a>, NoMemory>
+        requires { AreOrdered index.now (λ _. ⊤) ordered.now }
         ensures can { IfOk result CanFind }
-        ensures index { IfOk result (λ found. found.evidence.index.now ≡ evidence.entry.index.now) }
+        ensures index { IfOk result (λ found. found.evidence.index.now ≡ index.now) }
     {
-        let saw = evidence.accesses.saw.in_order(alloc)?;
-        let missed = evidence.accesses.missed.in_order(alloc)?;
-        let looks = looks_of(alloc, &evidence)?;
+        index.law();
+        let accesses = &ordered.accesses;
+        let evidence = Evidence { index, accesses };
         let passings = passings_of(alloc, &evidence)?;
         let reaches = minima_of::<Passing, ByReach>(alloc, &passings)?;
         Ok(Neighbours {
             evidence,
-            saw,
-            missed,
-            looks,
+            looks: &ordered.seen,
             passings,
             reaches,
         })
@@ -160,14 +160,14 @@ impl<'a> Neighbours<'a> {
     {
         let index = self.evidence.index;
         let mut end = 0;
-        for position in self.saw.at(number as usize) {
+        for position in self.evidence.accesses.saw.at(number as usize) {
             // Of each key the oldest version has them all.
             if *position >= end {
                 end = self.put_makers(number, *position, rows);
             }
         }
         let mut reached = 0;
-        for miss in self.missed.at(number as usize) {
+        for miss in self.evidence.accesses.missed.at(number as usize) {
             let mut from = miss.from.max(reached);
             while let Some(key) = index.next_visible(from, miss.to, u32::MAX) {
                 self.put_makers(number, index.first_position(key), rows);
@@ -182,7 +182,7 @@ impl<'a> Neighbours<'a> {
         requires can { CanFind self.now }
         requires number { (t : ℕ) × IsCommittedAt self.now.evidence.index.now number t }
         requires position { HasPosition self.now.evidence.index.now position }
-        requires room { HasRoom (length self.now.looks - position) rows.old }
+        requires room { HasRoom (length self.now.looks.now - position) rows.old }
         ensures end { EndsBehind self.now.evidence.index.now position result }
         ensures puts { PutsMore (λ n. (n.role ≡ Out)
             × OverlapsBehind self.now.evidence.index.now number position n.txn) (result - position)
@@ -219,13 +219,13 @@ impl<'a> Neighbours<'a> {
         requires number { (t : ℕ) × IsCommittedAt self.now.evidence.index.now number t }
         requires from { from ≤ to }
         requires to { HasPosition self.now.evidence.index.now to }
-        requires room { HasRoom (noted_between self.now.looks from to) rows.old }
-        ensures { PutsMore (IsLookerRow self.now number from to) (noted_between self.now.looks from to)
+        requires room { HasRoom (noted_between self.now.looks.now from to) rows.old }
+        ensures { PutsMore (IsLookerRow self.now number from to) (noted_between self.now.looks.now from to)
             rows.old rows.new }
     {
         for position in from..to {
             for look in self.looks.at(position as usize) {
-                self.put_if_overlaps(number, look.reader, Role::In, rows);
+                self.put_if_overlaps(number, *look, Role::In, rows);
             }
         }
     }
@@ -304,25 +304,6 @@ impl<'a> Neighbours<'a> {
             }
         }
     }
-}
-
-/// Who saw the version at each position, where a later one of its key was made.
-fn looks_of(alloc: Global, evidence: &Evidence) -> Result<Lists<Reading>, NoMemory>
-    requires { IsEvidence evidence.now }
-    ensures { IfOk result (AreLooks evidence.now.index.now evidence.now.accesses.now) }
-{
-    let index = evidence.index;
-    let mut looks = Vec::new(alloc);
-    for reader in 0..index.committed().len() as u32 {
-        for position in evidence.accesses.saw.at(reader as usize) {
-            let position = *position;
-            if index.next_position(position).is_some() {
-                looks.push(Reading { position, reader })?;
-            }
-        }
-    }
-    let count = index.position_count() as usize;
-    Ok(Lists::<Reading>::deal::<ByPosition>(alloc, count, &looks)?)
 }
 
 /// All range misses, by their first keys.

@@ -1,5 +1,5 @@
 -- The edges from one transaction as rows, by numbers, and what they are made from: the positions of what was written and seen.
-use Rattle.std.specs.Prelude.{◌≡◌, ◌≢◌, ◌⊎◌, ℕ, ◌+◌, ◌-◌, ◌*◌, ◌<◌, ◌≤◌, List, [], Contains, length, map, slice_index, slice_index_or, take, vec_capacity}
+use Rattle.std.specs.Prelude.{◌≡◌, ◌≢◌, ◌↔◌, ◌⊎◌, ℕ, ◌+◌, ◌-◌, ◌*◌, ◌<◌, ◌≤◌, List, [], Contains, length, map, slice_index, slice_index_or, take, vec_capacity}
 use Rattle.std.specs.Global.{Vec}
 use Rattle.std.specs.List.Sorted.{IsNonDecreasingBy}
 use Rattle.sia_events.specs.declared.event.Event.{Event}
@@ -14,7 +14,7 @@ use Rattle.sia_parts.specs.declared.accesses.RangeMiss.{RangeMiss}
 use Rattle.sia_parts.specs.declared.accesses.Accesses.{Accesses}
 use Rattle.sia_parts.specs.declared.edges.EdgeTo.{EdgeTo}
 use Rattle.sia_parts.specs.declared.edges.Edges.{Edges}
-use Rattle.sia_parts.specs.declared.edges.Reading.{Reading}
+use Rattle.sia_parts.specs.declared.ordered.Ordered.{Ordered}
 use Rattle.sia_parts.specs.declared.finding.Edge.{Edge}
 use Rattle.sia_parts.specs.declared.finding.Kind.{Kind}
 use Rattle.sia_parts.specs.declared.finding.Kind.TheVariants.{Ww, Wr, Rw}
@@ -69,33 +69,56 @@ IsToldEdge h a Wr i u j = (u ≢ i) × (q : ℕ) × (p : ℕ) × IsMadeAt h i j 
 IsToldEdge h a Rw i u j = (u ≢ i) × (p : ℕ) × IsMadeAt h u j p × (((q : ℕ) × SawPosition a i q × IsOfKey h j q × (q < p)) ⊎ Missed a i j)
 
 -- number u is noted at position p
-abbrev pub HasReading : List (List Reading) → ℕ → ℕ → Type 0
-HasReading readings p u = Contains (slice_index_or readings p []) (record { position = p; reader = u })
+abbrev pub HasReading : List (List ℕ) → ℕ → ℕ → Type 0
+HasReading readings p u = Contains (slice_index_or readings p []) u
 
--- at each position stand those who saw the version there, and each stands at the newest that it saw of a key
-pub record AreReadings (h : List Event) (a : Accesses) (readings : List (List Reading)) : Type 0 where
+-- at each position stand those who saw the version there
+pub record AreSeen (h : List Event) (a : Accesses) (seen : List (List ℕ)) : Type 0 where
+  pub long : ArePositions h (length seen)
+  pub each : (p u : ℕ) → HasReading seen p u ↔ SawPosition a u p
+
+-- those of them, among whom each stands at the newest that it saw of a key
+pub record AreReadings (h : List Event) (a : Accesses) (readings : List (List ℕ)) : Type 0 where
   pub long : ArePositions h (length readings)
-  pub seen : (p : ℕ) (reading : Reading) → Contains (slice_index_or readings p []) reading → (reading.position ≡ p) × SawPosition a reading.reader p
+  pub seen : (p u : ℕ) → HasReading readings p u → SawPosition a u p
   pub newest : (u q : ℕ) → SawPosition a u q → (p : ℕ) × StandsBehind h q p × HasReading readings p u
+
+-- accesses in order, and who saw each version
+pub record AreOrdered (h : List Event) (Within : ℕ → Type 0) (o : Ordered) : Type 0 where
+  pub accesses : AreAccesses h Within o.accesses
+  pub saw_rise : (i : ℕ) → IsNonDecreasingBy (λ q. q) (slice_index_or o.accesses.saw i [])
+  pub missed_rise : (i : ℕ) → IsNonDecreasingBy (λ miss. miss.from) (slice_index_or o.accesses.missed i [])
+  pub seen : AreSeen h o.accesses o.seen
+  pub newest : AreReadings h o.accesses o.newest
+
+-- the list has some of these positions, and one of each key of them that isn't older than theirs
+pub record IsNewest (h : List Event) (Saw : ℕ → Type 0) (list : List ℕ) : Type 0 where
+  pub each : (p : ℕ) → Contains list p → Saw p
+  pub newest : (q : ℕ) → Saw q → (p : ℕ) × StandsBehind h q p × Contains list p
+
+-- each list has such of the list of its number
+pub record AreNewest (h : List Event) (saw newest : List (List ℕ)) : Type 0 where
+  pub long : length newest ≡ length saw
+  pub each : (i : ℕ) → i < length saw → IsNewest h (Contains (slice_index_or saw i [])) (slice_index_or newest i [])
 
 -- what number i saw, and what it passed over
 abbrev pub saw_by : Edges → ℕ → List ℕ
-saw_by edges i = slice_index_or edges.accesses.saw i []
+saw_by edges i = slice_index_or edges.accesses.now.saw i []
 
 abbrev pub missed_by : Edges → ℕ → List RangeMiss
-missed_by edges i = slice_index_or edges.accesses.missed i []
+missed_by edges i = slice_index_or edges.accesses.now.missed i []
 
 -- how many are noted before position q, and from one to before another
-abbrev pub noted_before : List (List Reading) → ℕ → ℕ
+abbrev pub noted_before : List (List ℕ) → ℕ → ℕ
 noted_before readings q = length (joined (take q readings))
 
-abbrev pub noted_between : List (List Reading) → ℕ → ℕ → ℕ
+abbrev pub noted_between : List (List ℕ) → ℕ → ℕ → ℕ
 noted_between readings q e = noted_before readings e - noted_before readings q
 
 -- how many rows there are from one source at most: for each position three to its maker, which are of what the source made, saw
 -- and passed over, and one for each who is noted
 abbrev pub row_bound : Edges → ℕ
-row_bound edges = 3 * length edges.readings + length (joined edges.readings)
+row_bound edges = 3 * length edges.readings.now + length (joined edges.readings.now)
 
 -- there is room for so many rows more
 abbrev pub HasRoom : ℕ → Vec EdgeTo → Type 0
@@ -109,16 +132,10 @@ pub record Puts (P : EdgeTo → Type 0) (most : ℕ) (old new : Vec EdgeTo) : Ty
 
 -- edges can be told from it
 pub record CanTell (edges : Edges) : Type 0 where
-  pub accesses : AreAccesses edges.index.now (IsWithin edges.within) edges.accesses
+  pub accesses : AreAccesses edges.index.now (IsWithin edges.within) edges.accesses.now
   pub saw_rise : (i : ℕ) → IsNonDecreasingBy (λ q. q) (saw_by edges i)
   pub missed_rise : (i : ℕ) → IsNonDecreasingBy (λ miss. miss.from) (missed_by edges i)
-  pub readings : AreReadings edges.index.now edges.accesses edges.readings
-
--- the new list has readings of u more: each of a position that it saw, and of each that it saw one of that or of a newer one
-pub record ReadsMore (h : List Event) (u : ℕ) (Saw : ℕ → Type 0) (old new : List Reading) : Type 0 where
-  pub keeps : (reading : Reading) → Contains old reading → Contains new reading
-  pub each : (reading : Reading) → Contains new reading → Contains old reading ⊎ ((reading.reader ≡ u) × Saw reading.position)
-  pub newest : (q : ℕ) → Saw q → (p : ℕ) × StandsBehind h q p × Contains new (record { position = p; reader = u })
+  pub readings : AreReadings edges.index.now edges.accesses.now edges.readings.now
 
 -- the positions of the key that q is of end before e
 pub record IsKeyEnd (h : List Event) (q e : ℕ) : Type 0 where
@@ -131,14 +148,14 @@ pub record IsKeyEnd (h : List Event) (q e : ℕ) : Type 0 where
 abbrev pub IsMakerRow : List Event → ℕ → Kind → ℕ → EdgeTo → Type 0
 IsMakerRow h i kind q row = (row.kind ≡ kind) × (row.target ≢ i) × IsOfKey h row.key q × (p : ℕ) × (q < p) × IsMadeAt h row.target row.key p
 
--- to the reader of a reading
-abbrev pub IsReadingRow : ℕ → ℕ → Reading → EdgeTo → Type 0
-IsReadingRow i j reading row = (row ≡ record { target = reading.reader; kind = Wr; key = j }) × (reading.reader ≢ i)
+-- to this reader
+abbrev pub IsReadingRow : ℕ → ℕ → ℕ → EdgeTo → Type 0
+IsReadingRow i j u row = (row ≡ record { target = u; kind = Wr; key = j }) × (u ≢ i)
 
 -- to who is noted at position q or behind it
 abbrev pub IsReaderRow : Edges → ℕ → ℕ → EdgeTo → Type 0
 IsReaderRow edges i q row = (row.kind ≡ Wr) × (row.target ≢ i) × IsOfKey edges.index.now row.key q
-    × (p : ℕ) × (q ≤ p) × IsOfKey edges.index.now row.key p × HasReading edges.readings p row.target
+    × (p : ℕ) × (q ≤ p) × IsOfKey edges.index.now row.key p × HasReading edges.readings.now p row.target
 
 -- either of these, at a version within that i made
 abbrev pub IsMadeRow : Edges → ℕ → EdgeTo → Type 0

@@ -1,13 +1,12 @@
 //! Edges, source by source, made from the positions of what transactions wrote and saw.
-ghost use Rattle.std.specs.Prelude.{◌≡◌, ◌↔◌, ◌<◌, ◌+◌, ◌-◌, ℕ, All, Contains, IfOk, IsTrue, OnOk, length, ◌≤◌, vec_capacity};
-ghost use Rattle.std.specs.List.Sorted.{IsNonDecreasingBy};
+ghost use Rattle.std.specs.Prelude.{◌≡◌, ◌↔◌, ◌<◌, ◌+◌, ◌-◌, ℕ, IfOk, IsTrue, length, ◌≤◌, vec_capacity};
 ghost use Rattle.sia_index.specs.Numbers.{IsCommittedAt};
 ghost use Rattle.sia_index.specs.Info.{IsKeyAt};
 ghost use Rattle.sia_index.specs.Positions.{HasPosition, IsAtPosition};
 ghost use Rattle.sia_index.specs.declared.info.KeyVersion.{KeyVersion as version};
 ghost use Rattle.sia_parts.specs.declared.finding.Kind.TheVariants.{Rw};
 ghost use Rattle.sia_parts.specs.Accesses.{AreAccesses};
-ghost use Rattle.sia_parts.specs.EdgeRows.{AreEdgesFrom, CanTell, HasRoom, IsKeyEnd, IsMakerRow, IsMissRow, IsOfKey, IsReaderRow, Puts, ReadsMore, edge_of, missed_by, noted_between, row_bound, saw_by};
+ghost use Rattle.sia_parts.specs.EdgeRows.{AreEdgesFrom, AreOrdered, CanTell, HasRoom, IsKeyEnd, IsMakerRow, IsMissRow, IsOfKey, IsReaderRow, Puts, edge_of, missed_by, noted_between, row_bound, saw_by};
 ghost use Rattle.sia_parts.specs.Findings.{ListsEdges};
 ghost use Rattle.sia_parts.specs.Parts.{IsWithin};
 ghost use Rattle.sia_parts.specs.Sights.{FromSome};
@@ -15,6 +14,7 @@ ghost use Rattle.sia_parts.specs.Sights.{FromSome};
 use crate::accesses::Accesses;
 use crate::cutting::Part;
 use crate::finding::{Edge, Kind};
+use crate::ordered::Ordered;
 use sia_events::{Key, NoMemory, TxnId};
 use sia_index::Index;
 use sia_index::keyed::{By, ByTxn};
@@ -55,65 +55,30 @@ impl By<EdgeTo> for ByTxn {
     }
 }
 
-/// The version at a position, and the number of a transaction that saw it.
-#[derive(Clone, Copy)]
-pub struct Reading {
-    pub position: u32,
-    pub reader: u32,
-}
-
-/// By position.
-pub struct ByPosition;
-
-impl By<Reading> for ByPosition {
-    ghost by = { λ reading. reading.position };
-
-    fn number(reading: &Reading) -> u64 {
-        u64::from(reading.position)
-    }
-}
-
 /// What the edges at the keys of a part are made from, or, where there is none, those at all keys.
 #[derive(Drop)]
 pub struct Edges<'a> {
     pub index: &'a Index,
-    /// What was seen at these keys, each one's positions and range misses in order.
-    pub accesses: Accesses,
+    /// What was seen at these keys, in order.
+    pub accesses: &'a Accesses,
     pub within: Option<Part>,
     /// For each position who saw the version there and no newer one of its key.
-    pub readings: Lists<Reading>,
+    pub readings: &'a Lists<u32>,
 }
 
 impl<'a> Edges<'a> {
-    pub fn of(
-        alloc: Global,
-        index: &'a Index,
-        accesses: &Accesses,
-        within: Option<Part>,
-    ) -> Result<Edges<'a>, NoMemory>
-        requires { AreAccesses index.now (IsWithin within) accesses.now }
-        ensures tell { IfOk result CanTell }
-        ensures index { IfOk result (λ edges. edges.index.now ≡ index.now) }
-        ensures within { IfOk result (λ edges. edges.within ≡ within) }
+    pub fn of(index: &'a Index, ordered: &'a Ordered, within: Option<Part>) -> Edges<'a>
+        requires { AreOrdered index.now (IsWithin within) ordered.now }
+        ensures tell { CanTell result }
+        ensures index { result.index.now ≡ index.now }
+        ensures within { result.within ≡ within }
     {
-        let accesses = Accesses {
-            saw: accesses.saw.in_order(alloc)?,
-            missed: accesses.missed.in_order(alloc)?,
-        };
-        let saw = &accesses.saw;
-        let mut readings = Vec::with_capacity(alloc, saw.rows().len())?;
-        index.law();
-        let txns = index.committed();
-        for reader in 0..txns.len() as u32 {
-            put_readings(index, saw.at(reader as usize), reader, &mut readings)?;
-        }
-        let positions = index.position_count() as usize;
-        Ok(Edges {
+        Edges {
             index,
-            accesses,
+            accesses: &ordered.accesses,
             within,
-            readings: Lists::<Reading>::deal::<ByPosition>(alloc, positions, &readings)?,
-        })
+            readings: &ordered.newest,
+        }
     }
 
     /// How many rows the edges from a source take at most.
@@ -151,9 +116,9 @@ impl<'a> Edges<'a> {
     fn put_seen(&self, source: u32, rows: &mut Vec<EdgeTo>)
         requires tell { CanTell self.now }
         requires source { (t : ℕ) × IsCommittedAt self.now.index.now source t }
-        requires room { HasRoom (length self.now.readings) rows.old }
+        requires room { HasRoom (length self.now.readings.now) rows.old }
         ensures { Puts (FromSome (IsMakerRow self.now.index.now source Rw) (saw_by self.now source))
-            (length self.now.readings) rows.old rows.new }
+            (length self.now.readings.now) rows.old rows.new }
     {
         let mut end = 0;
         for position in self.accesses.saw.at(source as usize) {
@@ -167,9 +132,9 @@ impl<'a> Edges<'a> {
     fn put_missed(&self, source: u32, rows: &mut Vec<EdgeTo>)
         requires tell { CanTell self.now }
         requires source { (t : ℕ) × IsCommittedAt self.now.index.now source t }
-        requires room { HasRoom (length self.now.readings) rows.old }
+        requires room { HasRoom (length self.now.readings.now) rows.old }
         ensures { Puts (FromSome (λ miss. IsMissRow self.now.index.now source miss.from miss.to)
-            (missed_by self.now source)) (length self.now.readings) rows.old rows.new }
+            (missed_by self.now source)) (length self.now.readings.now) rows.old rows.new }
     {
         self.index.law();
         let mut end = 0;
@@ -207,19 +172,17 @@ impl<'a> Edges<'a> {
         requires tell { CanTell self.now }
         requires position { HasPosition self.now.index.now position }
         requires end { IsKeyEnd self.now.index.now position end }
-        requires room { HasRoom (noted_between self.now.readings position end) rows.old }
-        ensures { Puts (IsReaderRow self.now source position) (noted_between self.now.readings position end)
+        requires room { HasRoom (noted_between self.now.readings.now position end) rows.old }
+        ensures { Puts (IsReaderRow self.now source position) (noted_between self.now.readings.now position end)
             rows.old rows.new }
     {
         let key = self.index.key_at(position);
         for seen in position..end {
-            for reading in self.readings.at(seen as usize) {
-                if reading.reader != source {
-                    rows.push_reserved(EdgeTo {
-                        target: reading.reader,
-                        kind: Kind::Wr,
-                        key,
-                    });
+            for reader in self.readings.at(seen as usize) {
+                let target = *reader;
+                if target != source {
+                    let kind = Kind::Wr;
+                    rows.push_reserved(EdgeTo { target, kind, key });
                 }
             }
         }
@@ -254,29 +217,6 @@ pub fn first_or_end(ix: &Index, key: u32) -> u32
     }
 }
 
-/// Adds a reading of the newest version of each key of which the reader saw some.
-fn put_readings(
-    ix: &Index,
-    saw: &[u32],
-    reader: u32,
-    readings: &mut Vec<Reading>,
-) -> Result<(), NoMemory>
-    requires positions { All (HasPosition ix.now) saw.now }
-    requires rise { IsNonDecreasingBy (λ q. q) saw.now }
-    ensures { OnOk result (ReadsMore ix.now reader (Contains saw.now) readings.old.items
-        readings.new.items) }
-{
-    for i in (0..saw.len()).rev() {
-        if i + 1 == saw.len() || ix.key_at(saw[i + 1]) != ix.key_at(saw[i]) {
-            readings.push(Reading {
-                position: saw[i],
-                reader,
-            })?;
-        }
-    }
-    Ok(())
-}
-
 /// All edges by names at the keys of the part, or at all keys, of what was seen there.
 pub fn edges_at(
     alloc: Global,
@@ -288,7 +228,8 @@ pub fn edges_at(
     ensures { IfOk result (λ all. ListsEdges ix.now (IsWithin within) all.items) }
 {
     ix.law();
-    let edges = Edges::of(alloc, ix, accesses, within)?;
+    let ordered = Ordered::of(alloc, ix, accesses)?;
+    let edges = Edges::of(ix, &ordered, within);
     let txns = ix.committed();
     let keys = ix.written_keys();
     let mut all = Vec::new(alloc);

@@ -19,7 +19,7 @@ use Rattle.sia_parts.proofs.EdgeRows.KeyEnds.{rises_at}
 use Rattle.sia_parts.proofs.EdgeRows.PositionEdges.{edge_is_told, makers_apart, told_is_edge}
 use Rattle.sia_parts.proofs.EdgeRows.PositionOrder.{between_of_key, by_commit, made_of_key, one_key_of, same_number}
 use Rattle.sia_parts.proofs.Shared.Adding.{FromFirst, from_more}
-use Rattle.sia_parts.proofs.Shared.OneNumber.{one_key, one_committed as one_txn_at}
+use Rattle.sia_parts.proofs.Shared.OneNumber.{one_committed as one_txn_at}
 use Rattle.sia_graph.specs.declared.neighbours.Neighbour.{Neighbour}
 use Rattle.sia_graph.specs.declared.neighbours.Neighbours.{Neighbours}
 use Rattle.sia_graph.specs.declared.neighbours.Passing.{Passing}
@@ -132,9 +132,9 @@ module _ (n : Neighbours) (can : CanFind n) (i t : ℕ) (at : IsCommittedAt n.ev
 
       of_looker : (row : Neighbour) → IsLookerRow n i first here row → IsInAt n i here row
       of_looker row (p, from, less, (look, c, is)) =
-          let same = in_row look.reader row is in
-          let saw = (can.looks.seen p look c).1 in
-          let x = (can.evidence.accesses.saw look.reader p saw).3.version in
+          let same = in_row look row is in
+          let saw = (can.looks.each p look).0 c in
+          let x = (can.evidence.accesses.saw look p saw).3.version in
           let of = between_of_key h j first p here of_first (made_of_key h i j here m) from (omega arith) (x.0, x.1) in
           (subst (λ u. IsInRow h i u row) same is, j, m, inl (p, subst (λ u. SawPosition a u p) same saw, of, less))
 
@@ -161,9 +161,8 @@ module _ (n : Neighbours) (can : CanFind n) (i t : ℕ) (at : IsCommittedAt n.ev
           put : (row : Neighbour) → IsInAt n i here row → Contains new row
           put row (is, k, w, inl (p, saw, of, less)) =
               let mine = subst (λ x. IsOfKey h x p) (same_number h k j here (made_of_key h i k here w) (made_of_key h i j here m)) of in
-              let one = one_key h j mine.version.key m.version.key mine.key m.key in
-              let c = can.looks.each row.txn p here saw (mine.version, m.version, mine.at, m.at, one) less in
-              (passers row).1 (inl ((lookers row).1 (inr (p, first_before p mine, less, (record { position = p; reader = row.txn }, c, is)))))
+              let c = (can.looks.each p row.txn).1 saw in
+              (passers row).1 (inl ((lookers row).1 (inr (p, first_before p mine, less, (row.txn, c, is)))))
           put row (is, k, w, inr missed) =
               let same = same_number h k j here (made_of_key h i k here w) (made_of_key h i j here m) in
               let miss = missed.0 in

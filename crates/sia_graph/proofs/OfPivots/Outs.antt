@@ -6,7 +6,6 @@ use Rattle.std.specs.List.Sorted.{IsNonDecreasingBy}
 use Rattle.std.proofs.lemmas.Bool.{cases_lt}
 use Rattle.std.proofs.lemmas.List.{take_all}
 use Rattle.std.proofs.lemmas.List.Elements.{Contains-get_or}
-use Rattle.std.proofs.lemmas.List.Sorted.{Contains-permutation, IsPermutation-sym}
 use Rattle.sia_events.specs.declared.event.Event.{Event}
 use Rattle.sia_events.specs.declared.event.Event.TheVariants.{Commit}
 use Rattle.sia_events.specs.NarrowDependencies.{CommitsVersion, Looked}
@@ -318,18 +317,10 @@ module _ (h : List Event) (count : ℕ) (old : Vec Neighbour) where
 -- what one saw and passed over, in order
 module _ (n : Neighbours) (can : CanFind n) (i t : ℕ) (at : IsCommittedAt n.evidence.index.now i t) where
   pub saw_all : (q : ℕ) → Contains (saw_of n i) q ↔ SawPosition n.evidence.accesses.now i q
-  saw_all q =
-      let is = saw_is n.evidence.index.now n.evidence.accesses.now can.evidence.accesses i t at q in (
-        (λ c. is.0 (Contains-permutation _ _ q (IsPermutation-sym _ _ (can.saw i)) c)),
-        (λ s. Contains-permutation _ _ q (can.saw i) (is.1 s)),
-      )
+  saw_all q = saw_is n.evidence.index.now n.evidence.accesses.now can.evidence.accesses i t at q
 
   pub missed_all : (miss : RangeMiss) → Contains (missed_of n i) miss ↔ HasMiss n.evidence.accesses.now i miss
-  missed_all miss =
-      let is = missed_is n.evidence.index.now n.evidence.accesses.now can.evidence.accesses i t at miss in (
-        (λ c. is.0 (Contains-permutation _ _ miss (IsPermutation-sym _ _ (can.missed i)) c)),
-        (λ s. Contains-permutation _ _ miss (can.missed i) (is.1 s)),
-      )
+  missed_all miss = missed_is n.evidence.index.now n.evidence.accesses.now can.evidence.accesses i t at miss
 
   -- a position that it saw, and a range miss that it has, with the keys up to its end
   pub saw_at : (xs : List ℕ) → xs ≡ saw_of n i → (k : ℕ) → k < length xs → HasPosition n.evidence.index.now (get_or xs k 0)

@@ -1,6 +1,6 @@
 -- What one transaction saw and passed over, as the rows of its edges take it.
-use Rattle.std.proofs.Common.{◌≡◌, ◌⊎◌, inl, inr, ℕ, ◌+◌, ◌-◌, ◌<◌, ◌≤◌, List, [], ◌∷◌, ◌++◌, Some, length, take, max, ap, sym, subst, ◌∙◌, arith}
-use Rattle.std.specs.Prelude.{All, Contains, slice_index, slice_index_or}
+use Rattle.std.proofs.Common.{◌≡◌, ◌⊎◌, inl, inr, ℕ, ◌+◌, ◌-◌, ◌<◌, ◌≤◌, List, [], ◌∷◌, ◌++◌, Some, length, take, max, refl, ap, sym, subst, ◌∙◌, arith}
+use Rattle.std.specs.Prelude.{◌↔◌, All, Contains, slice_index, slice_index_or}
 use Rattle.std.specs.List.{slice_get}
 use Rattle.std.specs.List.Sorted.{IsNonDecreasingBy, IsSorted}
 use Rattle.std.specs.Ordering.{nat_cmp, ordering_then}
@@ -12,17 +12,16 @@ use Rattle.std.proofs.lemmas.List.Sorted.{IsNonDecreasingBy-from_sort, Contains-
 use Rattle.std.proofs.lemmas.Option.{get_or_from_slice_get, slice_get-get_or, slice_get_within}
 use Rattle.sia_events.specs.declared.event.Event.{Event}
 use Rattle.sia_index.specs.Info.{HasKeyAt}
-use Rattle.sia_index.specs.Lists.{AreInOrder}
+use Rattle.sia_index.specs.Lists.{AreInOrder, with_last}
 use Rattle.sia_index.specs.Numbers.{IsCommittedAt}
 use Rattle.sia_index.specs.Positions.{HasPosition}
 use Rattle.sia_index.proofs.Shared.Ordered.{not_before}
 use Rattle.sia_parts.specs.declared.accesses.Accesses.{Accesses}
 use Rattle.sia_parts.specs.declared.accesses.RangeMiss.{RangeMiss}
 use Rattle.sia_parts.specs.declared.edges.EdgeTo.{EdgeTo}
-use Rattle.sia_parts.specs.declared.edges.Reading.{Reading}
 use Rattle.sia_parts.specs.Accesses.{AreAccesses, HasMiss, IsLook}
 use Rattle.sia_parts.specs.ByReader.{HasRow}
-use Rattle.sia_parts.specs.EdgeRows.{IsKeyEnd, IsMissRow, ReadsMore, StandsBehind}
+use Rattle.sia_parts.specs.EdgeRows.{IsKeyEnd, IsMissRow, IsNewest, StandsBehind}
 use Rattle.sia_parts.specs.Sights.{Adds}
 use Rattle.sia_parts.proofs.Shared.Adding.{FromFirst, from_more}
 use Rattle.sia_parts.proofs.EdgeRows.EdgeLoops.{ReachesTo, StandsFrom, adds_held}
@@ -67,12 +66,11 @@ module _ {A : Type 0} (cmp : A → A → Ordering) (lists rows : List (List A)) 
   ordered_from (list, is, c) = at_number lists i (let below = slice_get_within rows i list is in let long = are.long in omega arith) x
       (Contains-permutation _ _ x (IsPermutation-sym _ _ (are.moved i)) (of_number rows i x (list, is, c)))
 
-pub same_accesses : (h : List Event) (Within : ℕ → Type 0) (a b : Accesses) (cmp : ℕ → ℕ → Ordering) (by : RangeMiss → RangeMiss → Ordering) → AreInOrder cmp a.saw b.saw → AreInOrder by a.missed b.missed
-    → AreAccesses h Within a → AreAccesses h Within b
-same_accesses h Within a b cmp by saw missed are = record {
-  saw_long = λ txns list. saw.long ∙ are.saw_long txns list;
+pub same_accesses : (h : List Event) (Within : ℕ → Type 0) (a b : Accesses) (by : RangeMiss → RangeMiss → Ordering) → length b.saw ≡ length a.saw → ((i q : ℕ) → HasRow a.saw i q ↔ HasRow b.saw i q) → AreInOrder by a.missed b.missed → AreAccesses h Within a → AreAccesses h Within b
+same_accesses h Within a b by long saw missed are = record {
+  saw_long = λ txns list. long ∙ are.saw_long txns list;
   missed_long = λ txns list. missed.long ∙ are.missed_long txns list;
-  saw = λ i q is. (let look = are.saw i q (ordered_from cmp a.saw b.saw saw i q is) in (look.0, look.1, look.2, look_to i q look.0 look.1 look.2 look.3, look.4, look.5));
+  saw = λ i q is. (let look = are.saw i q ((saw i q).1 is) in (look.0, look.1, look.2, look_to i q look.0 look.1 look.2 look.3, look.4, look.5));
   missed = λ i j is. are.missed i j (is.0, ordered_from by a.missed b.missed missed i is.0 is.1, is.2, is.3);
   some = λ i miss has. are.some i miss (ordered_from by a.missed b.missed missed i miss has);
   each = λ t k c u look wrote within. elim (are.each t k c u look wrote within) [
@@ -89,7 +87,7 @@ same_accesses h Within a b cmp by saw missed are = record {
 }
   where
     look_to : (i q t k c : ℕ) → IsLook h a i q t k c → IsLook h b i q t k c
-    look_to i q t k c look = record { saw = ordered_to cmp a.saw b.saw saw i q look.saw; txn = look.txn; version = look.version }
+    look_to i q t k c look = record { saw = (saw i q).0 look.saw; txn = look.txn; version = look.version }
 
 -- range misses in order begin in order
 pub misses_rise : (xs : List RangeMiss) → IsSorted (λ x y. ordering_then (nat_cmp x.from y.from) (nat_cmp x.to y.to)) xs → IsNonDecreasingBy (λ (miss : RangeMiss). miss.from) xs
@@ -133,16 +131,21 @@ module _ (h : List Event) (xs : List ℕ) (n : ℕ) (below : n < length xs) wher
       let is = ends (omega arith) in
       (is.0, is.1, key_stands h is.0 end is.2 (slice_index xs n) (first_below xs n 0 below (λ q. q) rise is.0 is.1) less)
 
--- readings of positions, from the last one back
-module _ (h : List Event) (u : ℕ) (saw : List ℕ) (old : List Reading) where
-  pub reads_none : (n : ℕ) → length saw ≤ n → ReadsMore h u (StandsFrom saw n) old old
-  reads_none n last = record {
-    keeps = λ reading c. c;
-    each = λ reading c. inl c;
+-- one more in the last list
+pub put_last : (lists : List (List ℕ)) (xs : List ℕ) (x : ℕ) → with_last (lists ++ xs ∷ []) x ≡ lists ++ (xs ++ x ∷ []) ∷ []
+put_last [] xs x = refl
+put_last (ys ∷ []) xs x = refl
+put_last (ys ∷ zs ∷ lists) xs x = ap (λ yss. ys ∷ yss) (put_last (zs ∷ lists) xs x)
+
+-- the newest of each key among positions, from the last one back
+module _ (h : List Event) (saw : List ℕ) where
+  pub newest_none : (n : ℕ) → length saw ≤ n → IsNewest h (StandsFrom saw n) []
+  newest_none n last = record {
+    each = λ p c. absurd (let below = c.1 in omega arith);
     newest = λ q from. absurd (let low = from.1 in let below = from.2 in omega arith);
   }
 
-  module _ (n m : ℕ) (next : m ≡ n + 1) (below : n < length saw) (mid : List Reading) (before : ReadsMore h u (StandsFrom saw m) old mid) where
+  module _ (n m : ℕ) (next : m ≡ n + 1) (below : n < length saw) (list : List ℕ) (before : IsNewest h (StandsFrom saw m) list) where
     from_next : (q : ℕ) → StandsFrom saw n q → (slice_index saw n ≡ q) ⊎ StandsFrom saw m q
     from_next q from = elim (cases_lt n from.0) [
       | inl less ↦ inr (from.0, omega arith, from.2, from.3)
@@ -153,27 +156,22 @@ module _ (h : List Event) (u : ℕ) (saw : List ℕ) (old : List Reading) where
     later q from = (from.0, (let low = from.1 in omega arith), from.2, from.3)
 
     -- its own
-    pub reads_push : StandsBehind h (slice_index saw n) (slice_index saw n) → ReadsMore h u (StandsFrom saw n) old (mid ++ record { position = slice_index saw n; reader = u } ∷ [])
-    reads_push own = record {
-      keeps = λ reading c. Contains-append_left mid _ reading (before.keeps reading c);
-      each = λ reading c. elim (Contains-push_cases mid (record { position = slice_index saw n; reader = u }) reading c) [
-        | inl here ↦ elim (before.each reading here) [ inl first ↦ inl first | inr is ↦ inr (is.0, later reading.position is.1) ]
-        | inr same ↦ inr (
-          ap (λ (r : Reading). r.reader) (sym same),
-          subst (λ (r : Reading). StandsFrom saw n r.position) same (n, omega arith, below, get_or_default saw n (slice_index saw n) 0 below),
-        )
+    pub newest_put : IsNewest h (StandsFrom saw n) (list ++ slice_index saw n ∷ [])
+    newest_put = record {
+      each = λ p c. elim (Contains-push_cases list (slice_index saw n) p c) [
+        | inl first ↦ later p (before.each p first)
+        | inr same ↦ subst (StandsFrom saw n) same (n, omega arith, below, get_or_default saw n (slice_index saw n) 0 below)
       ];
       newest = λ q from. elim (from_next q from) [
-        | inl same ↦ (slice_index saw n, subst (λ p. StandsBehind h p (slice_index saw n)) same own, Contains-push mid _)
-        | inr behind ↦ (let is = before.newest q behind in (is.0, is.1, Contains-append_left mid _ _ is.2))
+        | inl same ↦ (slice_index saw n, subst (λ p. StandsBehind h p (slice_index saw n)) same (record { le = omega arith; forth = λ j of. of; back = λ j of. of }), Contains-push list _)
+        | inr behind ↦ (let is = before.newest q behind in (is.0, is.1, Contains-append_left list _ _ is.2))
       ];
     }
 
     -- or that of the next one
-    pub reads_same : m < length saw → StandsBehind h (slice_index saw n) (slice_index saw m) → ReadsMore h u (StandsFrom saw n) old mid
-    reads_same there stands = record {
-      keeps = before.keeps;
-      each = λ reading c. elim (before.each reading c) [ inl first ↦ inl first | inr is ↦ inr (is.0, later reading.position is.1) ];
+    pub newest_same : m < length saw → StandsBehind h (slice_index saw n) (slice_index saw m) → IsNewest h (StandsFrom saw n) list
+    newest_same there stands = record {
+      each = λ p c. later p (before.each p c);
       newest = λ q from. elim (from_next q from) [
         | inl same ↦ (
             let is = before.newest (slice_index saw m) (m, omega arith, there, get_or_default saw m (slice_index saw m) 0 there) in
@@ -187,11 +185,10 @@ module _ (h : List Event) (u : ℕ) (saw : List ℕ) (old : List Reading) where
       ];
     }
 
-  pub reads_all : (n : ℕ) → n ≡ 0 → (new : List Reading) → ReadsMore h u (StandsFrom saw n) old new → ReadsMore h u (Contains saw) old new
-  reads_all n zero new reads = record {
-    keeps = reads.keeps;
-    each = λ reading c. elim (reads.each reading c) [ inl first ↦ inl first | inr is ↦ inr (is.0, (is.1.0, is.1.2, is.1.3)) ];
-    newest = λ q c. reads.newest q (c.0, omega arith, c.1, c.2);
+  pub newest_all : (n : ℕ) → n ≡ 0 → (list : List ℕ) → IsNewest h (StandsFrom saw n) list → IsNewest h (Contains saw) list
+  newest_all n zero list is = record {
+    each = λ p c. (let from = is.each p c in (from.0, from.2, from.3));
+    newest = λ q c. is.newest q (c.0, omega arith, c.1, c.2);
   }
 
 -- range misses, one after another

@@ -15,7 +15,6 @@ use Rattle.sia_index.specs.Positions.{HasVersionUpTo, IsAtPosition}
 use Rattle.sia_parts.specs.declared.accesses.RangeMiss.{RangeMiss}
 use Rattle.sia_parts.specs.declared.edges.EdgeTo.{EdgeTo}
 use Rattle.sia_parts.specs.declared.edges.Edges.{Edges}
-use Rattle.sia_parts.specs.declared.edges.Reading.{Reading}
 use Rattle.sia_parts.specs.declared.finding.Kind.{Kind}
 use Rattle.sia_parts.specs.declared.finding.Kind.TheVariants.{Ww, Wr, Rw}
 use Rattle.sia_parts.specs.EdgeRows.{AreReadings, HasReading, IsKeyEnd, IsMadeAt, IsMakerRow, IsMissRow, IsOfKey, IsReaderRow, IsReadingRow, StandsBehind}
@@ -91,34 +90,28 @@ module _ (h : List Event) (i : ℕ) where
 -- rows to who is noted from position q to before n
 abbrev pub ReadersBelow : Edges → ℕ → ℕ → ℕ → EdgeTo → Type 0
 ReadersBelow edges i q n row = (row.kind ≡ Wr) × (row.target ≢ i) × IsOfKey edges.index.now row.key q
-    × (p : ℕ) × (q ≤ p) × (p < n) × IsOfKey edges.index.now row.key p × HasReading edges.readings p row.target
+    × (p : ℕ) × (q ≤ p) × (p < n) × IsOfKey edges.index.now row.key p × HasReading edges.readings.now p row.target
 
 module _ (edges : Edges) (i : ℕ) where
   pub readers_none : (q : ℕ) (old : List EdgeTo) → Adds (ReadersBelow edges i q q) old old
   readers_none q old = adds_nothing (ReadersBelow edges i q q) old (λ row is. let low = is.4 in let high = is.5 in omega arith)
 
-  pub readers_more : (q n j : ℕ) (old mid new : List EdgeTo) → AreReadings edges.index.now edges.accesses edges.readings → q ≤ n → IsOfKey edges.index.now j q → IsOfKey edges.index.now j n
-      → Adds (ReadersBelow edges i q n) old mid → Adds (FromSome (IsReadingRow i j) (slice_index_or edges.readings n [])) mid new → Adds (ReadersBelow edges i q (n + 1)) old new
+  pub readers_more : (q n j : ℕ) (old mid new : List EdgeTo) → AreReadings edges.index.now edges.accesses.now edges.readings.now → q ≤ n → IsOfKey edges.index.now j q → IsOfKey edges.index.now j n
+      → Adds (ReadersBelow edges i q n) old mid → Adds (FromSome (IsReadingRow i j) (slice_index_or edges.readings.now n [])) mid new → Adds (ReadersBelow edges i q (n + 1)) old new
   readers_more q n j old mid new are low of here before more =
-      adds_same (λ row. ReadersBelow edges i q n row ⊎ FromSome (IsReadingRow i j) (slice_index_or edges.readings n []) row) (ReadersBelow edges i q (n + 1)) old new
+      adds_same (λ row. ReadersBelow edges i q n row ⊎ FromSome (IsReadingRow i j) (slice_index_or edges.readings.now n []) row) (ReadersBelow edges i q (n + 1)) old new
       (λ row e. elim e [
         | inl is ↦ (is.0, is.1, is.2, is.3, is.4, (let high = is.5 in omega arith), is.6, is.7)
-        | inr f ↦ of_reading row f.0 f.1 f.2
+        | inr f ↦ subst (ReadersBelow edges i q (n + 1)) (sym f.2.0) (refl, f.2.1, of, n, low, omega arith, here, f.1)
       ])
       (λ row is. elim (cases_lt is.3 n) [
         | inl below ↦ inl (is.0, is.1, is.2, is.3, is.4, below, is.6, is.7)
         | inr last ↦
             let at : is.3 ≡ n = (let high = is.5 in omega arith) in
             let key : row.key ≡ j = same_number edges.index.now row.key j q is.2 of in
-            inr (record { position = n; reader = row.target }, subst (λ p. HasReading edges.readings p row.target) at is.7, ((λ x. record { target = row.target; kind = is.0 x; key = key x }), is.1))
+            inr (row.target, subst (λ p. HasReading edges.readings.now p row.target) at is.7, ((λ x. record { target = row.target; kind = is.0 x; key = key x }), is.1))
       ])
-      (adds_both (ReadersBelow edges i q n) (FromSome (IsReadingRow i j) (slice_index_or edges.readings n [])) old mid new before more)
-    where
-      of_reading : (row : EdgeTo) (reading : Reading) → Contains (slice_index_or edges.readings n []) reading → IsReadingRow i j reading row → ReadersBelow edges i q (n + 1) row
-      of_reading row reading c is =
-          let at = (are.seen n reading c).0 in
-          subst (ReadersBelow edges i q (n + 1)) (sym is.0)
-          (refl, is.1, of, n, low, omega arith, here, subst (Contains (slice_index_or edges.readings n [])) (λ x. record { position = at x; reader = reading.reader }) c)
+      (adds_both (ReadersBelow edges i q n) (FromSome (IsReadingRow i j) (slice_index_or edges.readings.now n [])) old mid new before more)
 
   pub readers_all : (q e n : ℕ) (old new : List EdgeTo) → IsKeyEnd edges.index.now q e → e ≤ n → Adds (ReadersBelow edges i q n) old new → Adds (IsReaderRow edges i q) old new
   readers_all q e n old new end last = adds_same (ReadersBelow edges i q n) (IsReaderRow edges i q) old new

@@ -33,7 +33,7 @@ use Rattle.sia_parts.proofs.EdgeRows.PositionOrder.{made_of_key}
 
 -- the row is told by positions, and its key lies within
 pub record IsTold (edges : Edges) (i : ℕ) (row : EdgeTo) : Type 0 where
-  pub edge : IsToldEdge edges.index.now edges.accesses row.kind i row.target row.key
+  pub edge : IsToldEdge edges.index.now edges.accesses.now row.kind i row.target row.key
   pub target : (u : ℕ) × IsCommittedAt edges.index.now row.target u
   pub key : (k : ℕ) × IsKeyAt edges.index.now row.key k × IsWithin edges.within k
 
@@ -51,16 +51,16 @@ edge_ends h Rw t u k edge = (edge.2.1, u, edge.2.0)
 module _ (edges : Edges) (tell : CanTell edges) (wf : IsWellFormed edges.index.now) (i t : ℕ) (src : IsCommittedAt edges.index.now i t) where
   module _ (row : EdgeTo) where
     -- an edge by positions of this kind is one of the row
-    of_kind : (kind : Kind) → row.kind ≡ kind → IsToldEdge edges.index.now edges.accesses kind i row.target row.key → IsToldEdge edges.index.now edges.accesses row.kind i row.target row.key
-    of_kind kind same told = subst (λ x. IsToldEdge edges.index.now edges.accesses x i row.target row.key) (sym same) told
+    of_kind : (kind : Kind) → row.kind ≡ kind → IsToldEdge edges.index.now edges.accesses.now kind i row.target row.key → IsToldEdge edges.index.now edges.accesses.now row.kind i row.target row.key
+    of_kind kind same told = subst (λ x. IsToldEdge edges.index.now edges.accesses.now x i row.target row.key) (sym same) told
 
     -- what was seen is within
     seen_told : (kind : Kind) → kind ≢ Ww → row.kind ≡ kind → (u : ℕ) → IsCommittedAt edges.index.now row.target u → (k : ℕ) → IsKeyAt edges.index.now row.key k
-        → IsToldEdge edges.index.now edges.accesses kind i row.target row.key → IsTold edges i row
+        → IsToldEdge edges.index.now edges.accesses.now kind i row.target row.key → IsTold edges i row
     seen_told kind other same u at k key told = record {
       edge = of_kind kind same told;
       target = (u, at);
-      key = (k, key, told_within edges.index.now wf (IsWithin edges.within) edges.accesses tell.accesses i row.key row.target t k u src at key kind other told);
+      key = (k, key, told_within edges.index.now wf (IsWithin edges.within) edges.accesses.now tell.accesses i row.key row.target t k u src at key kind other told);
     }
 
     pub row_told : IsRow edges i row → IsTold edges i row
@@ -70,24 +70,24 @@ module _ (edges : Edges) (tell : CanTell edges) (wf : IsWellFormed edges.index.n
       key = key;
     }
     row_told (inl (inl (q, m, key, inr is))) =
-        let reading = tell.readings.seen is.3 (record { position = is.3; reader = row.target }) is.6 in
-        let look = (tell.accesses.saw row.target is.3 reading.1).3 in
-        seen_told Wr (λ same. absurd cc) is.0 (tell.accesses.saw row.target is.3 reading.1).0 look.txn key.0 key.1 (is.1, q, is.3, m, reading.1, is.5, is.4)
+        let reading = tell.readings.seen is.3 row.target is.6 in
+        let look = (tell.accesses.saw row.target is.3 reading).3 in
+        seen_told Wr (λ same. absurd cc) is.0 (tell.accesses.saw row.target is.3 reading).0 look.txn key.0 key.1 (is.1, q, is.3, m, reading, is.5, is.4)
     row_told (inl (inr (q, c, is))) =
-        let saw = at_number edges.accesses.saw i (saw_within edges.index.now (IsWithin edges.within) edges.accesses tell.accesses i t src) q c in
+        let saw = at_number edges.accesses.now.saw i (saw_within edges.index.now (IsWithin edges.within) edges.accesses.now tell.accesses i t src) q c in
         seen_told Rw (λ same. absurd cc) is.0 is.5.version.txn is.5.maker is.5.version.key is.5.key (is.1, is.3, is.5, inl (q, saw, is.2, is.4))
     row_told (inr (miss, c, is)) =
-        let has = at_number edges.accesses.missed i (missed_within edges.index.now (IsWithin edges.within) edges.accesses tell.accesses i t src) miss c in
+        let has = at_number edges.accesses.now.missed i (missed_within edges.index.now (IsWithin edges.within) edges.accesses.now tell.accesses i t src) miss c in
         seen_told Rw (λ same. absurd cc) is.0 is.5.version.txn is.5.maker is.5.version.key is.5.key (is.1, is.4, is.5, inr (miss, has, is.2, is.3))
 
-    told_row : (kind : Kind) → row.kind ≡ kind → IsToldEdge edges.index.now edges.accesses kind i row.target row.key → (k : ℕ) × IsKeyAt edges.index.now row.key k × IsWithin edges.within k → IsRow edges i row
+    told_row : (kind : Kind) → row.kind ≡ kind → IsToldEdge edges.index.now edges.accesses.now kind i row.target row.key → (k : ℕ) × IsKeyAt edges.index.now row.key k × IsWithin edges.within k → IsRow edges i row
     told_row Ww same (q, p, m, n, less) key = inl (inl (q, m, key, inl (same, makers_apart edges.index.now wf i row.target row.key q p m n less, made_of_key edges.index.now i row.key q m, p, less, n)))
     told_row Wr same (other, q, p, m, saw, of, le) key =
         let newest = tell.readings.newest row.target p saw in
         let most = newest.1.le in
         inl (inl (q, m, key, inr (same, other, made_of_key edges.index.now i row.key q m, newest.0, omega arith, newest.1.forth row.key of, newest.2)))
-    told_row Rw same (other, p, n, inl (q, saw, of, less)) key = inl (inr (q, of_number edges.accesses.saw i q saw, (same, other, of, p, less, n)))
-    told_row Rw same (other, p, n, inr (miss, has, from, to)) key = inr (miss, of_number edges.accesses.missed i miss has, (same, other, from, to, p, n))
+    told_row Rw same (other, p, n, inl (q, saw, of, less)) key = inl (inr (q, of_number edges.accesses.now.saw i q saw, (same, other, of, p, less, n)))
+    told_row Rw same (other, p, n, inr (miss, has, from, to)) key = inr (miss, of_number edges.accesses.now.missed i miss has, (same, other, from, to, p, n))
 
     pub row_of_told : IsTold edges i row → IsRow edges i row
     row_of_told told = told_row row.kind refl told.edge told.key
@@ -115,7 +115,7 @@ module _ (edges : Edges) (tell : CanTell edges) (wf : IsWellFormed edges.index.n
     told_named : (row : EdgeTo) → IsTold edges i row → IsEdge edges.index.now (edge_of txns keys i row) × IsWithin edges.within (slice_index keys row.key)
     told_named row told =
         let key = keyed row.key told.key.0 told.key.1 in (
-          told_is_edge edges.index.now wf (IsWithin edges.within) edges.accesses tell.accesses i row.key row.target (slice_index txns i) (slice_index keys row.key) (slice_index txns row.target)
+          told_is_edge edges.index.now wf (IsWithin edges.within) edges.accesses.now tell.accesses i row.key row.target (slice_index txns i) (slice_index keys row.key) (slice_index txns row.target)
               (named i t src) (named row.target told.target.0 told.target.1) key.0 row.kind told.edge,
           subst (IsWithin edges.within) (sym key.1) told.key.2,
         )
@@ -127,7 +127,7 @@ module _ (edges : Edges) (tell : CanTell edges) (wf : IsWellFormed edges.index.n
         let target = numbered e.dst ends.0 in
         let key = key_of e.key (ends.1, ends.2) in
         let from = subst (IsCommittedAt edges.index.now i) (sym same) (named i t src) in
-        let told = edge_is_told edges.index.now wf (IsWithin edges.within) edges.accesses tell.accesses i key.0 target.0 e.src e.key e.dst from target.1 key.1 tell.readings.long.0 tell.readings.long.1 within e.kind is in (
+        let told = edge_is_told edges.index.now wf (IsWithin edges.within) edges.accesses.now tell.accesses i key.0 target.0 e.src e.key e.dst from target.1 key.1 tell.readings.long.0 tell.readings.long.1 within e.kind is in (
           record { target = target.0; kind = e.kind; key = key.0 },
           record { edge = told; target = (e.dst, target.1); key = (e.key, key.1, within) },
           λ x. record { src = sym same x; dst = target.2 x; kind = e.kind; key = key.2 x },

@@ -8,9 +8,9 @@ use Rattle.sia_events.specs.declared.event.Event.{Event}
 use Rattle.sia_events.proofs.Worked.OneList.{one_list_by}
 use Rattle.sia_index.specs.Lists.{joined}
 use Rattle.sia_index.specs.Positions.{ArePositions}
+use Rattle.sia_index.proofs.Sorting.Turned.{held_few, held_next}
 use Rattle.sia_parts.specs.declared.edges.EdgeTo.{EdgeTo}
 use Rattle.sia_parts.specs.declared.edges.Edges.{Edges}
-use Rattle.sia_parts.specs.declared.edges.Reading.{Reading}
 use Rattle.sia_parts.specs.EdgeRows.{IsKeyEnd, IsOfKey, Puts, StandsBehind, noted_before}
 use Rattle.sia_parts.specs.Sights.{Adds}
 use Rattle.sia_parts.proofs.EdgeRows.KeyEnds.{rises_at}
@@ -29,7 +29,7 @@ module _ (P Q : EdgeTo → Type 0) (n m : ℕ) (old mid : Vec EdgeTo) (before : 
   }
 
 -- how many are noted
-pub noted_rises : (readings : List (List Reading)) (q n : ℕ) → q ≤ n → noted_before readings q ≤ noted_before readings n
+pub noted_rises : (readings : List (List ℕ)) (q n : ℕ) → q ≤ n → noted_before readings q ≤ noted_before readings n
 noted_rises readings zero n le = omega arith
 noted_rises readings (suc q) zero le = absurd (omega arith)
 noted_rises [] (suc q) (suc n) le = omega arith
@@ -37,18 +37,11 @@ noted_rises (xs ∷ readings) (suc q) (suc n) le =
     let rest = noted_rises readings q n (omega arith) in
     omega (arith, rest, length-append xs (joined (take q readings)), length-append xs (joined (take n readings)))
 
-pub noted_all : (readings : List (List Reading)) (n : ℕ) → noted_before readings n ≤ length (joined readings)
-noted_all readings zero = omega arith
-noted_all [] (suc n) = omega arith
-noted_all (xs ∷ readings) (suc n) = omega (arith, noted_all readings n, length-append xs (joined (take n readings)), length-append xs (joined readings))
+pub noted_all : (readings : List (List ℕ)) (n : ℕ) → noted_before readings n ≤ length (joined readings)
+noted_all readings n = held_few readings n
 
-noted_next : (readings : List (List Reading)) (n : ℕ) → n < length readings → noted_before readings (suc n) ≡ noted_before readings n + length (slice_index_or readings n [])
-noted_next [] n below = absurd (omega arith)
-noted_next (xs ∷ readings) zero below = omega (arith, length-append xs [])
-noted_next (xs ∷ readings) (suc n) below = omega (arith, noted_next readings n (omega arith), length-append xs (joined (take n readings)), length-append xs (joined (take (suc n) readings)))
-
-pub noted_more : (readings : List (List Reading)) (n : ℕ) → n < length readings → noted_before readings (n + 1) ≡ noted_before readings n + length (slice_index_or readings n [])
-noted_more readings n below = let next : suc n ≡ n + 1 = omega arith in subst (λ m. noted_before readings m ≡ noted_before readings n + length (slice_index_or readings n [])) next (noted_next readings n below)
+pub noted_more : (readings : List (List ℕ)) (n : ℕ) → n < length readings → noted_before readings (n + 1) ≡ noted_before readings n + length (slice_index_or readings n [])
+noted_more readings n below = held_next readings n below
 
 module _ (h : List Event) (q e : ℕ) (end : IsKeyEnd h q e) where
   pub end_behind : q < e
@@ -93,7 +86,7 @@ one_count h n m a b = sym a.2 ∙ ap length (one_list_by _ _ a.0 b.0 a.1 b.1) �
 pub record TakesTo (edges : Edges) (j : ℕ) (old new : Vec EdgeTo) : Type 0 where
   pub low : ℕ
   pub stand : StandFrom edges.index.now j low
-  pub within : low ≤ length edges.readings
+  pub within : low ≤ length edges.readings.now
   pub few : length new.items ≤ length old.items + low
   pub room : vec_capacity new ≡ vec_capacity old
 
@@ -105,12 +98,12 @@ module _ (edges : Edges) (old : Vec EdgeTo) where
   takes_later j i new le takes = record { low = takes.low; stand = λ k q more of. takes.stand k q (omega arith) of; within = takes.within; few = takes.few; room = takes.room }
 
   -- those of the next key
-  pub takes_more : ArePositions edges.index.now (length edges.readings) → (j i q e : ℕ) (mid new : Vec EdgeTo) → TakesTo edges j old mid → j ≤ i → IsOfKey edges.index.now i q → IsKeyEnd edges.index.now q e
+  pub takes_more : ArePositions edges.index.now (length edges.readings.now) → (j i q e : ℕ) (mid new : Vec EdgeTo) → TakesTo edges j old mid → j ≤ i → IsOfKey edges.index.now i q → IsKeyEnd edges.index.now q e
       → length new.items ≤ length mid.items + (e - q) → vec_capacity new ≡ vec_capacity mid → TakesTo edges (i + 1) old new
   takes_more are j i q e mid new takes le own end few same = record {
     low = e;
     stand = λ k p more of. later_keys edges.index.now q e end i own k p (omega arith) of;
-    within = end_within edges.index.now q e end (length edges.readings) are;
+    within = end_within edges.index.now q e end (length edges.readings.now) are;
     few = (let low = takes.stand i q le own in let behind = end_behind edges.index.now q e end in let first = takes.few in omega arith);
     room = same ∙ takes.room;
   }

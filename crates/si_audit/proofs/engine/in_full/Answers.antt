@@ -1,10 +1,13 @@
-use Rattle.std.proofs.Common.{◌++◌, flat_map, refl}
+use Rattle.std.proofs.Common.{◌++◌, None, flat_map, refl}
 use Rattle.si_audit.specs.declared.options.Form.TheVariants.{Full}
 use Rattle.si_audit.specs.Account.{account_with}
 use Rattle.si_audit.specs.Lines.{edge_line, pivot_line, report_text}
 use Rattle.si_audit.proofs.Shared.Clean.{account_is}
 use Rattle.si_audit.proofs.Shared.Results.{ok_map}
 use Rattle.si_audit.proofs.engine.in_full.Goals as goal
+
+pub invariant_of-found : goal.invariant_of-found
+invariant_of-found c = (c.in_ok-ordered.ensures None c.requires.accesses, c.in_ok-spelled.ensures)
 
 pub returns-clause-report : goal.returns-clause-report
 returns-clause-report c =

@@ -15,7 +15,7 @@ pub loop-source-init : goal.loop-source-init
 loop-source-init c = (rw c.new-all.ensures.items (edges_none c.args.ix.now (IsWithin c.args.within) 0), (let bound = c.most_rows.ensures in let room = c.in_ok-rows.ensures.capacity in omega arith))
 
 pub put_from-requires-clause-source : goal.put_from-requires-clause-source
-put_from-requires-clause-source c = subst (λ h. (t : ℕ) × IsCommittedAt h c.loop-source.source t) (sym c.in_ok-edges.ensures.index) (has_number c.args.ix.now c.committed-txns.result.now c.committed-txns.ensures c.loop-source.source c.loop-source-test.true)
+put_from-requires-clause-source c = subst (λ h. (t : ℕ) × IsCommittedAt h c.loop-source.source t) (sym c.of-edges.ensures.index) (has_number c.args.ix.now c.committed-txns.result.now c.committed-txns.ensures c.loop-source.source c.loop-source-test.true)
 
 pub loop-source-preserved : goal.loop-source-preserved
 loop-source-preserved c =
@@ -25,7 +25,7 @@ loop-source-preserved c =
     let keys = c.written_keys-keys.result.now in
     let i = c.loop-source.source in
     let rows = c.put_from.new.rows.items in
-    let from : AreEdgesFrom h W i rows = subst (λ g. AreEdgesFrom g W i rows) c.in_ok-edges.ensures.index (subst (λ w. AreEdgesFrom c.in_ok-edges.edges.index.now (IsWithin w) i rows) c.in_ok-edges.ensures.within c.put_from.ensures.edges) in
+    let from : AreEdgesFrom h W i rows = subst (λ g. AreEdgesFrom g W i rows) c.of-edges.ensures.index (subst (λ w. AreEdgesFrom c.of-edges.result.index.now (IsWithin w) i rows) c.of-edges.ensures.within c.put_from.ensures.edges) in
     (rw (c.loop-row.invariant, take_all c.loop-row.row-index c.deref-row-items.result.now c.loop-row-test.false, c.deref-row-items.ensures.value) (edges_joined h W 0 i (i + 1) (omega arith) (omega arith) c.loop-source.all.items (map (edge_of txns keys i) rows) c.loop-source.invariant.0 (from.edges txns keys c.committed-txns.ensures c.written_keys-keys.ensures)), (let same = c.put_from.ensures.room in let room = c.loop-source.invariant.1 in omega arith))
 
 pub returns : goal.returns

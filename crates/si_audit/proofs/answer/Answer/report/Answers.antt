@@ -6,8 +6,8 @@ use Rattle.si_audit.proofs.answer.Answer.report.Goals as goal
 pub returns : goal.returns
 returns c bytes (lines, are, all) =
     let (edges, pivots, edges_are, pivots_are, both) = subst (λ f. AreLinesOf f lines) c.in-Some.is are in
-    let edges_left = c.in_ok-edges.ensures.all edges (c.in_ok-of.ensures.all edges edges_are) in
-    let pivots_left = c.in_ok-pivots.ensures.all pivots (c.in_ok-of-2.ensures.all pivots pivots_are) in (
+    let edges_left = c.in_ok-edges.ensures.all edges (c.of.ensures.all edges edges_are) in
+    let pivots_left = c.in_ok-pivots.ensures.all pivots (c.in_ok-of.ensures.all pivots pivots_are) in (
       edges,
       pivots,
       rw c.in_ok-edges.ensures.told edges_left,

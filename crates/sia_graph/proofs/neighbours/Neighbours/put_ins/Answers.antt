@@ -48,9 +48,9 @@ between c =
     stands self c.requires.can c.args.number t.0 t.1 xs are l.position-index c.loop-position-test.true c.key_at-key.result own _ l.passed l.invariant.1 c.first_position.result first.0 first.1 first.2 first.3
 
 -- so there are looks enough behind those that were counted
-fits : (c : After-first_position) → noted_before c.args.self.now.looks c.loop-position.invariant.0 + noted_between c.args.self.now.looks c.first_position.result (slice_index c.made_by-position-items.result.now c.loop-position.position-index)
-    ≤ noted_before c.args.self.now.looks (slice_index c.made_by-position-items.result.now c.loop-position.position-index)
-fits c = (let at = between c in let low = noted_rises c.args.self.now.looks _ _ at.0 in let up = noted_rises c.args.self.now.looks _ _ at.1 in omega arith)
+fits : (c : After-first_position) → noted_before c.args.self.now.looks.now c.loop-position.invariant.0 + noted_between c.args.self.now.looks.now c.first_position.result (slice_index c.made_by-position-items.result.now c.loop-position.position-index)
+    ≤ noted_before c.args.self.now.looks.now (slice_index c.made_by-position-items.result.now c.loop-position.position-index)
+fits c = (let at = between c in let low = noted_rises c.args.self.now.looks.now _ _ at.0 in let up = noted_rises c.args.self.now.looks.now _ _ at.1 in omega arith)
 
 pub put_lookers-requires-clause-from : goal.put_lookers-requires-clause-from
 put_lookers-requires-clause-from c = (between (goal.at.put_lookers-requires-clause-from c).After-first_position).1
@@ -61,7 +61,7 @@ put_lookers-requires-clause-to c = let is = next (goal.at.put_lookers-requires-c
 pub put_lookers-requires-clause-room : goal.put_lookers-requires-clause-room
 put_lookers-requires-clause-room c =
     let seen = fits (goal.at.put_lookers-requires-clause-room c).After-first_position in
-    let all = noted_all c.args.self.now.looks (slice_index c.made_by-position-items.result.now c.loop-position.position-index) in
+    let all = noted_all c.args.self.now.looks.now (slice_index c.made_by-position-items.result.now c.loop-position.position-index) in
     omega arith
 
 pub put_passers-passed-requires-clause-from : goal.put_passers-passed-requires-clause-from
@@ -73,7 +73,7 @@ put_passers-passed-requires-clause-from c =
 pub put_passers-passed-requires-clause-room : goal.put_passers-passed-requires-clause-room
 put_passers-passed-requires-clause-room c =
     let seen = fits (goal.at.put_passers-passed-requires-clause-room c).After-first_position in
-    let all = noted_all c.args.self.now.looks (slice_index c.made_by-position-items.result.now c.loop-position.position-index) in
+    let all = noted_all c.args.self.now.looks.now (slice_index c.made_by-position-items.result.now c.loop-position.position-index) in
     let few = c.loop-position.invariant.3.few in
     omega arith
 
@@ -108,7 +108,7 @@ returns c =
     let xs = c.made_by-position-items.result.now in
     let l = c.loop-position in
     let t = c.requires.number in
-    puts_like (FromSome (IsInAt self i) xs) (λ (row : Neighbour). (row.role ≡ In) × IsVulnerableAt self.evidence.index.now row.txn i) (noted_before self.looks l.invariant.0 + l.passed) (most_ins self) _ _
-    (let most = l.invariant.2 in let all = noted_all self.looks l.invariant.0 in omega arith)
+    puts_like (FromSome (IsInAt self i) xs) (λ (row : Neighbour). (row.role ≡ In) × IsVulnerableAt self.evidence.index.now row.txn i) (noted_before self.looks.now l.invariant.0 + l.passed) (most_ins self) _ _
+    (let most = l.invariant.2 in let all = noted_all self.looks.now l.invariant.0 in omega arith)
     (ins_are self c.requires.can i t.0 t.1 c.keys_law.ensures.0 c.keys_law.ensures.1 xs (c.made_by-position-items.ensures t.0 t.1).each)
-    (subst (λ ys. PutsMore (FromSome (IsInAt self i) ys) (noted_before self.looks l.invariant.0 + l.passed) c.args.rows.now l.rows) (take_all l.position-index xs c.loop-position-test.false) l.invariant.3)
+    (subst (λ ys. PutsMore (FromSome (IsInAt self i) ys) (noted_before self.looks.now l.invariant.0 + l.passed) c.args.rows.now l.rows) (take_all l.position-index xs c.loop-position-test.false) l.invariant.3)

@@ -8,4 +8,4 @@ use Rattle.sia_graph.proofs.neighbours.Neighbours.put_ins.Given as goal
 
 abbrev pub invariant-loop-position : goal.invariant-loop-position
 invariant-loop-position l = (low : ℕ) × GoneTo l.fn.self l.number l.position-items l.position-index low l.passed × (l.passed ≤ length l.fn.self.passings.items)
-    × PutsMore (FromFirst (IsInAt l.fn.self l.number) l.position-items l.position-index) (noted_before l.fn.self.looks low + l.passed) l.fn.rows l.rows
+    × PutsMore (FromFirst (IsInAt l.fn.self l.number) l.position-items l.position-index) (noted_before l.fn.self.looks.now low + l.passed) l.fn.rows l.rows

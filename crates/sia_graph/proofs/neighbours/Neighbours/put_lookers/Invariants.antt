@@ -9,4 +9,4 @@ abbrev pub invariant-loop-look : goal.invariant-loop-look
 invariant-loop-look l = PutsMore (FromFirst (IsLookRow l.fn.self l.number) l.look-items l.look-index) l.look-index l.initial.rows l.rows
 
 abbrev pub invariant-loop-position : goal.invariant-loop-position
-invariant-loop-position l = PutsMore (IsLookerRow l.fn.self l.number l.from l.position) (noted_between l.fn.self.looks l.from l.position) l.fn.rows l.rows
+invariant-loop-position l = PutsMore (IsLookerRow l.fn.self l.number l.from l.position) (noted_between l.fn.self.looks.now l.from l.position) l.fn.rows l.rows

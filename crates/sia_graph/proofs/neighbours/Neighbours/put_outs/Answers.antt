@@ -35,7 +35,7 @@ loop-position-preserved c =
           let end = b.put_makers-end.ensures.end in
           rw (b.rows-is, b.end-is) (
             ends_more h i xs n below _ end,
-            ends_within h _ _ (length c.args.self.now.looks) c.requires.can.looks.long end,
+            ends_within h _ _ (length c.args.self.now.looks.now) c.requires.can.looks.long end,
             puts_then _ _ _ c.loop-position.end (b.put_makers-end.result - get_or xs n 0) b.put_makers-end.result _ _ _
                 (let past = b.if-position-end.true in let is = end.1 in let behind = end.2 in omega arith)
                 (outs_both (FromFirst P xs n) (P (get_or xs n 0)) (FromFirst P xs (n + 1)) (first_more P xs n 0 below)) before b.put_makers-end.ensures.puts,
@@ -97,7 +97,7 @@ loop-key-preserved c =
     let start = c.max-from.result in (
       omega arith,
       inr (omega arith),
-      takes_more h (length c.args.self.now.looks) _ c.requires.can.looks.long c.loop-key.from c.in-Some.key c.first_position.result c.put_makers.result _ _ c.loop-key.invariant.2 from (record { version = first.0; at = first.1; key = first.2 })
+      takes_more h (length c.args.self.now.looks.now) _ c.requires.can.looks.long c.loop-key.from c.in-Some.key c.first_position.result c.put_makers.result _ _ c.loop-key.invariant.2 from (record { version = first.0; at = first.1; key = first.2 })
           c.put_makers.ensures.end puts.few puts.room,
       adds_then (OverlapsIn h i (span start c.loop-key.from)) (OverlapsBehind h i c.first_position.result) (OverlapsIn h i (span start (c.in-Some.key + 1))) _ _ _
           (keys_more h i c.requires.can.evidence.well_formed start c.loop-key.from c.in-Some.key c.first_position.result first.0 low from first.1 first.2 first.3 c.in-Some.ensures.2) c.loop-key.invariant.3 puts.adds,

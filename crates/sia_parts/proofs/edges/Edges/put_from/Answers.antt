@@ -82,13 +82,13 @@ put_makers-end-requires-clause-position c = made_here c.args.self.now.index.now 
 pub put_makers-end-requires-clause-room : goal.put_makers-end-requires-clause-room
 put_makers-end-requires-clause-room c end is =
     let h = c.args.self.now.index.now in
-    let most = end_within h _ end is (length c.args.self.now.readings) c.requires.tell.readings.long in
+    let most = end_within h _ end is (length c.args.self.now.readings.now) c.requires.tell.readings.long in
     let behind = end_behind h _ end is in
     let before = c.loop-position.invariant in
     let low = before.2 c.loop-position.position-index (omega arith) c.loop-position-test.true in
     let few = before.3.few in
     let same = before.3.room in
-    let noted = noted_all c.args.self.now.readings before.0 in
+    let noted = noted_all c.args.self.now.readings.now before.0 in
     let none = ap (length {A = EdgeTo}) c.clear.ensures.items in
     let kept = c.clear.ensures.capacity in
     let room = c.requires.room in
@@ -99,7 +99,7 @@ put_readers-requires-clause-position c = made_here c.args.self.now.index.now c.r
 
 pub put_readers-requires-clause-room : goal.put_readers-requires-clause-room
 put_readers-requires-clause-room c =
-    let readings = c.args.self.now.readings in
+    let readings = c.args.self.now.readings.now in
     let q = slice_index c.made_by-made.result.now c.loop-position.position-index in
     let made = c.put_makers-end.ensures in
     let most = end_within c.args.self.now.index.now _ _ made.end (length readings) c.requires.tell.readings.long in
@@ -135,7 +135,7 @@ loop-position-preserved c =
           let end = w.put_makers-end.result in
           rw w.rows-is (
             end,
-            end_within h _ _ makers.end (length self.readings) c.requires.tell.readings.long,
+            end_within h _ _ makers.end (length self.readings.now) c.requires.tell.readings.long,
             later_made h c.law.ensures c.args.source c.requires.source.0 c.requires.source.1 made (c.made_by-made.ensures c.requires.source.0 c.requires.source.1) n end makers.end,
             record {
               adds = from_more (MadeHere self c.args.source) made n 0 _ _ _ below before.3.adds (adds_same (λ row. IsMakerRow h c.args.source Ww q row ⊎ IsReaderRow self c.args.source q row) (MadeHere self c.args.source q) _ _
@@ -149,8 +149,8 @@ loop-position-preserved c =
                   let few = before.3.few in
                   let more = makers.puts.few in
                   let most = readers.few in
-                  let first = noted_rises self.readings before.0 q low in
-                  let then = noted_rises self.readings q end (omega arith) in
+                  let first = noted_rises self.readings.now before.0 q low in
+                  let then = noted_rises self.readings.now q end (omega arith) in
                   omega arith);
               room = readers.room ∙ makers.puts.room ∙ before.3.room;
             },
@@ -169,13 +169,13 @@ loop-position-preserved c =
     outside : {b : Bool} → b ≡ false → IsTrue b → ⊥
     outside never holds = cc
 
-made_puts : (c : After-loop-position) → Puts (IsMadeRow c.args.self.now c.args.source) (length c.args.self.now.readings + length (joined c.args.self.now.readings)) c.clear.new.self c.loop-position.rows
+made_puts : (c : After-loop-position) → Puts (IsMadeRow c.args.self.now c.args.source) (length c.args.self.now.readings.now + length (joined c.args.self.now.readings.now)) c.clear.new.self c.loop-position.rows
 made_puts c =
     let self = c.args.self.now in
     let made = c.made_by-made.result.now in
     let are = c.made_by-made.ensures c.requires.source.0 c.requires.source.1 in
     let before = c.loop-position.invariant in
-    puts_like _ _ _ _ _ _ before.3 (let most = before.1 in let noted = noted_all self.readings before.0 in omega arith)
+    puts_like _ _ _ _ _ _ before.3 (let most = before.1 in let noted = noted_all self.readings.now before.0 in omega arith)
     (adds_same (FromSome (MadeHere self c.args.source) made) (IsMadeRow self c.args.source) _ _
     (λ row f. made_row self c.args.source c.requires.source.0 c.requires.source.1 f.0 ((are.each f.0).0 f.1) row f.2)
     (λ row is. row_made self c.args.source c.requires.source.0 c.requires.source.1 made are row is)

@@ -24,10 +24,10 @@ next_miss : (edges : Edges) → CanTell edges → (i t : ℕ) → IsCommittedAt 
     → ((slice_index_or xs n none).from < (slice_index_or xs n none).to) × ((j : ℕ) → j < (slice_index_or xs n none).to → HasKeyAt edges.index.now j)
 next_miss edges tell i t at xs is n below =
     let W = IsWithin edges.within in
-    let long = missed_within edges.index.now W edges.accesses tell.accesses i t at in
+    let long = missed_within edges.index.now W edges.accesses.now tell.accesses i t at in
     let has = subst (λ ys. Contains ys (slice_index_or xs n none)) is (Contains-get_or xs n none below) in (
-      tell.accesses.some i (slice_index_or xs n none) (at_number edges.accesses.missed i long _ has),
-      miss_keys edges.index.now W edges.accesses tell.accesses i long (slice_index_or xs n none) has,
+      tell.accesses.some i (slice_index_or xs n none) (at_number edges.accesses.now.missed i long _ has),
+      miss_keys edges.index.now W edges.accesses.now tell.accesses i long (slice_index_or xs n none) has,
     )
 
 pub loop-miss-init : goal.loop-miss-init
@@ -55,7 +55,7 @@ pub put_makers-requires-clause-room : goal.put_makers-requires-clause-room
 put_makers-requires-clause-room c end is =
     let h = c.args.self.now.index.now in
     let first = c.first_position.ensures in
-    let most = end_within h _ end is (length c.args.self.now.readings) c.requires.tell.readings.long in
+    let most = end_within h _ end is (length c.args.self.now.readings.now) c.requires.tell.readings.long in
     let behind = end_behind h _ end is in
     let takes = c.loop-key.invariant.2 in
     let low = takes.stand c.in-Some.key c.first_position.result c.in-Some.ensures.0 (record { version = first.0; at = first.1; key = first.2 }) in

@@ -5,7 +5,7 @@ use Rattle.sia_parts.proofs.EdgeRows.EdgeLoops.{ReadersBelow}
 use Rattle.sia_parts.proofs.edges.Edges.put_readers.Given as goal
 
 abbrev pub invariant-loop-seen : goal.invariant-loop-seen
-invariant-loop-seen l = Puts (ReadersBelow l.fn.self l.source l.position l.seen) (noted_between l.fn.self.readings l.position l.seen) l.fn.rows l.rows
+invariant-loop-seen l = Puts (ReadersBelow l.fn.self l.source l.position l.seen) (noted_between l.fn.self.readings.now l.position l.seen) l.fn.rows l.rows
 
-abbrev pub invariant-loop-reading : goal.invariant-loop-reading
-invariant-loop-reading l = Puts (FromFirst (IsReadingRow l.source l.key) l.reading-items l.reading-index) l.reading-index l.initial.rows l.rows
+abbrev pub invariant-loop-reader : goal.invariant-loop-reader
+invariant-loop-reader l = Puts (FromFirst (IsReadingRow l.source l.key) l.reader-items l.reader-index) l.reader-index l.initial.rows l.rows

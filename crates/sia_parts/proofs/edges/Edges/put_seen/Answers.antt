@@ -18,12 +18,12 @@ pub put_makers-end-requires-clause-position : goal.put_makers-end-requires-claus
 put_makers-end-requires-clause-position c =
     let self = c.args.self.now in
     let h = self.index.now in
-    let below = saw_within h (IsWithin self.within) self.accesses c.requires.tell.accesses c.args.source c.requires.source.0 c.requires.source.1 in
-    rw c.at-position-items.ensures (saw_positions h (IsWithin self.within) self.accesses c.requires.tell.accesses c.args.source below c.loop-position.position-index 0 (rw c.at-position-items.ensures at c.loop-position-test.true))
+    let below = saw_within h (IsWithin self.within) self.accesses.now c.requires.tell.accesses c.args.source c.requires.source.0 c.requires.source.1 in
+    rw c.at-position-items.ensures (saw_positions h (IsWithin self.within) self.accesses.now c.requires.tell.accesses c.args.source below c.loop-position.position-index 0 (rw c.at-position-items.ensures at c.loop-position-test.true))
 
 pub put_makers-end-requires-clause-room : goal.put_makers-end-requires-clause-room
 put_makers-end-requires-clause-room c end is =
-    let most = end_within c.args.self.now.index.now _ end is (length c.args.self.now.readings) c.requires.tell.readings.long in
+    let most = end_within c.args.self.now.index.now _ end is (length c.args.self.now.readings.now) c.requires.tell.readings.long in
     let behind = end_behind c.args.self.now.index.now _ end is in
     let few = c.loop-position.invariant.2.few in
     let same = c.loop-position.invariant.2.room in
@@ -45,7 +45,7 @@ loop-position-preserved c =
           let puts = w.put_makers-end.ensures.puts in
           rw (w.rows-is, w.end-is) (
             ends_more h xs n below _ w.put_makers-end.ensures.end,
-            end_within h _ _ w.put_makers-end.ensures.end (length c.args.self.now.readings) c.requires.tell.readings.long,
+            end_within h _ _ w.put_makers-end.ensures.end (length c.args.self.now.readings.now) c.requires.tell.readings.long,
             record {
               adds = from_more P xs n 0 _ _ _ below before.adds puts.adds;
               few = (
