@@ -55,10 +55,7 @@ pub fn line_up(alloc: Global, count: u32, workers: u32) -> Result<Vec<Taker>, No
     let mut end = OwnerEnd::fifo_as(alloc, count as usize)?;
     for part in 0..count {
         // The deque began with a slot for each part, so none is handed back.
-        match end.push_as::<PartPlaced>(part) {
-            Ok(()) => {}
-            Err(_) => unreachable!(),
-        }
+        end.push_as::<PartPlaced>(part).unwrap();
     }
     let mut takers = Vec::new(alloc);
     'giving: for number in 1..workers {

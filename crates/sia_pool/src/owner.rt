@@ -34,9 +34,7 @@ impl Owner {
     {
         match self.end.pop_as::<PartTaken>() {
             Some(part) => {
-                let Ok(()) = self.share.push(part) else {
-                    unreachable!()
-                };
+                self.share.push(part).unwrap();
                 Taken::Part(part)
             }
             None => Taken::Nothing,
@@ -58,9 +56,7 @@ impl Owner {
             number: _,
         } = stealer;
         drop(end);
-        let Ok(()) = self.later.push(share) else {
-            unreachable!()
-        };
+        self.later.push(share).unwrap();
         self.end.absorb::<ViewBack>(pass);
     }
 }

@@ -32,9 +32,7 @@ impl Stealer {
     {
         match self.end.steal_as::<PartTaken>(&mut self.pass) {
             Steal::Success(part) => {
-                let Ok(()) = self.share.push(part) else {
-                    unreachable!()
-                };
+                self.share.push(part).unwrap();
                 Taken::Part(part)
             }
             Steal::Empty => Taken::Nothing,

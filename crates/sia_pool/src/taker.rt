@@ -88,9 +88,7 @@ impl Taker {
             mut later,
         } = owner;
         drop(end);
-        let Ok(()) = later.insert(0, share) else {
-            unreachable!()
-        };
+        later.insert(0, share).unwrap();
         later
     }
 

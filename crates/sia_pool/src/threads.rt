@@ -54,9 +54,7 @@ pub(crate) fn run_all<
     requires takes { (p : ℕ) → p < count_of takers.items → J.takes job.now p }
     ensures { IfOk result (λ r. AllDone (J.owes job.now) takers.items r.taker r.answers.items) }
 {
-    let Some(last) = takers.pop() else {
-        unreachable!()
-    };
+    let last = takers.pop().unwrap();
     let flag = AtomicBool::new(false);
     let ended = &flag;
     if takers.is_empty() {
