@@ -4,8 +4,6 @@ use Rattle.std.specs.Int.RustNames.{bit_and}
 use Rattle.std.specs.BTreeMap.{get}
 use Rattle.std.specs.Ordering.{nat_cmp}
 use Rattle.sia_events.specs.declared.finder.Finder.{Finder}
-use Rattle.sia_events.specs.declared.finder.Look.{Look}
-use Rattle.sia_events.specs.declared.finder.Look.TheVariants as looks
 
 -- the first slot for a name
 unfoldable pub home : Finder → ℕ → ℕ
@@ -37,9 +35,3 @@ FindsBelow f names end = (n : ℕ) (name : ℕ) → n < end → slice_get names 
 -- each of the names is found
 unfoldable pub Finds : Finder → List ℕ → Type 0
 Finds f names = (n : ℕ) (name : ℕ) → slice_get names n ≡ Some name → Reaches f names name
-
--- what a slot says of a name: that it is free, that a row of the name has the number, or neither
-abbrev pub Looks : List ℕ → List ℕ → ℕ → ℕ → Look → Type 0
-Looks slots names at name looks.Free = slice_get slots at ≡ Some 0
-Looks slots names at name (looks.Found n) = slice_get names n ≡ Some name
-Looks slots names at name looks.Other = IsOther slots names at name

@@ -33,22 +33,13 @@ pub(crate) struct Mention {
     pub(crate) number: u32,
 }
 
-fn follows(before: Option<Key>, lo: Key, key: Key) -> bool
-    ensures { result ≡ not (nat_lt key (least_after before lo)) }
-{
-    match before {
-        None => lo <= key,
-        Some(before) => before < key,
-    }
-}
-
 /// Whether the listed keys lie from `lo` to `hi`, each greater than the one before it.
 fn is_good_list(lo: Key, hi: Key, listed: &[Mention]) -> bool
     ensures { result ≡ goes_up lo hi (mentioned listed.now) }
 {
     let mut before: Option<Key> = None;
     for mention in listed {
-        if !follows(before, lo, mention.key) {
+        if before.map_or(mention.key < lo, |before| mention.key <= before) {
             return false;
         }
         before = Some(mention.key);
@@ -280,30 +271,21 @@ impl Draft {
     }
 
     #[tactic(auto, unfolding(crate::specs::Drafts::Takes))]
-    pub(crate) fn read(&mut self, txn: TxnId, key: Key, saw: Version) -> Result<(), Refusal>
+    pub(crate) fn read(&mut self, txn: TxnId, name: Key, saw: Version) -> Result<(), Refusal>
         requires { CanTake self.old }
-        ensures { Takes self.old self.new (an_event.Read txn key saw) result }
+        ensures { Takes self.old self.new (an_event.Read txn name saw) result }
     {
         let txn = self.actor(txn)?;
-        let number = self.key(NO_KEY, key)?;
-        let Some(saw) = self.seen(number, key, saw) else {
+        let key = self.key(NO_KEY, name)?;
+        let Some(saw) = self.seen(key, name, saw) else {
             return Err(Refusal::Bad(Reason::NotWritten));
         };
-        let row = self.read_row(txn, number, saw);
+        let row = match self.write_by(txn, key) {
+            0 => Row::Read { txn, key, saw },
+            _ => Row::OwnRead { txn, key, saw },
+        };
         self.tables.events.push(row)?;
         Ok(())
-    }
-
-    fn read_row(&self, txn: u32, key: u32, saw: u32) -> Row
-        requires { AreFound self.now }
-        ensures { (t k v : ℕ) → slice_get (txn_names self.now.tables.txns.items) txn ≡ Some t
-            → slice_get self.now.tables.keys.items key ≡ Some k → IsSeen (names_in self.now.tables) k v saw
-            → IsReadRow (names_in self.now.tables) t k v result }
-    {
-        if self.write_by(txn, key) == 0 {
-            return Row::Read { txn, key, saw };
-        }
-        Row::OwnRead { txn, key, saw }
     }
 
     #[tactic(auto, unfolding(crate::specs::Drafts::Takes))]
@@ -357,22 +339,13 @@ impl Draft {
             return Err(Refusal::NoMemory);
         }
         for mention in listed {
-            let pair = match self.known_pair(mention) {
-                Some(pair) => pair,
+            let pair = match self.seen_last(mention.number, mention.key, mention.saw) {
+                Some(write) => pair_number(mention.number, write),
                 None => self.other_pair(mention)?,
             };
             self.tables.pairs.push(pair)?;
         }
         Ok(())
-    }
-
-    /// The number of a listed pair, where that of its key is the given one, and its version was seen last.
-    fn known_pair(&self, mention: &Mention) -> Option<u32>
-        requires { AreFound self.now }
-        ensures { IfSome result (HasPair self.now.tables self.now.tables mention.now.key mention.now.saw) }
-    {
-        let write = self.seen_last(mention.number, mention.key, mention.saw)?;
-        Some(pair_number(mention.number, write))
     }
 
     #[inline(never)]

@@ -1,6 +1,6 @@
 //! Numbers of rows by their names.
 ghost use Rattle.std.specs.Prelude.{◌≡◌, ◌≢◌, ◌+◌, ◌^◌, ◌<◌, ℕ, List, [], Some, map, length, slice_get, OnOk, IfSome, IfNone, true, false};
-ghost use Rattle.sia_events.specs.Finding.{home, Looks, Finds, FindsBelow, Reaches};
+ghost use Rattle.sia_events.specs.Finding.{home, Finds, FindsBelow, Reaches};
 
 use std::alloc::{AllocError, Global};
 use std::collections::BTreeMap;
@@ -41,13 +41,6 @@ pub struct Finder {
     tree: BTreeMap<u64, u32>,
 }
 
-/// What a slot says of a name.
-enum Look {
-    Free,
-    Found(u32),
-    Other,
-}
-
 fn is_named<R: Named>(rows: &[R], number: u32, name: u64) -> bool
     ensures yes { result ≡ true → slice_get (map R.named rows.now) number ≡ Some name }
     ensures no { result ≡ false → slice_get (map R.named rows.now) number ≢ Some name }
@@ -80,17 +73,6 @@ impl Finder {
         ((name.wrapping_mul(self.factor) >> 32) & u64::from(self.mask)) as usize
     }
 
-    /// What the slot says of the name, or as much as one that is taken where there is none.
-    fn look<R: Named>(&self, rows: &[R], at: usize, name: u64) -> Look
-        ensures { Looks self.now.slots.items (map R.named rows.now) at name result }
-    {
-        match self.slots.get(at).copied() {
-            Some(0) => Look::Free,
-            Some(slot) if is_named(rows, slot - 1, name) => Look::Found(slot - 1),
-            _ => Look::Other,
-        }
-    }
-
     /// The number of a row with the name. The rows are those that were taken in.
     pub fn find<R: Named>(&self, rows: &[R], name: u64) -> Option<u32>
         ensures some { IfSome result (λ n. slice_get (map R.named rows.now) n ≡ Some name) }
@@ -101,10 +83,10 @@ impl Finder {
     {
         let home = self.home(name);
         for step in 0..WAYS {
-            match self.look(rows, home + step, name) {
-                Look::Free => return None,
-                Look::Found(number) => return Some(number),
-                Look::Other => {}
+            match self.slots.get(home + step).copied() {
+                Some(0) => return None,
+                Some(slot) if is_named(rows, slot - 1, name) => return Some(slot - 1),
+                _ => {}
             }
         }
         let number = *self.tree.get(&name)?;
@@ -150,13 +132,6 @@ impl Finder {
         Ok(())
     }
 
-    fn is_free(&self, at: usize) -> bool
-        ensures yes { result ≡ true → slice_get self.now.slots.items at ≡ Some 0 }
-        ensures no { result ≡ false → slice_get self.now.slots.items at ≢ Some 0 }
-    {
-        self.slots.get(at).copied() == Some(0)
-    }
-
     /// Takes in the row with the name and the number.
     fn put(&mut self, name: u64, number: u32) -> Result<(), AllocError>
         requires { number + 1 < 2 ^ 32 }
@@ -167,7 +142,7 @@ impl Finder {
     {
         let home = self.home(name);
         for step in 0..WAYS {
-            if self.is_free(home + step) {
+            if self.slots.get(home + step).copied() == Some(0) {
                 self.slots[home + step] = number + 1;
                 return Ok(());
             }

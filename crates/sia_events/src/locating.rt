@@ -29,15 +29,11 @@ impl Place {
             → IsPlaceAfter (front ++ byte ∷ []) result.line result.column }
     {
         if byte == b'\n' {
-            Place {
-                line: self.line.saturating_add(1),
-                column: 1,
-            }
+            let line = self.line.saturating_add(1);
+            Place { line, column: 1 }
         } else {
-            Place {
-                line: self.line,
-                column: self.column.saturating_add(1),
-            }
+            let column = self.column.saturating_add(1);
+            Place { column, ..self }
         }
     }
 }

@@ -63,14 +63,11 @@ impl OwnWrites {
         ensures tracks { (before : List AWriteRow) (key : ℕ) → rows.now ≡ before ++ new_write txn key ∷ []
             → Tracks self.old before → OnOk result (Tracks self.new rows.now) }
     {
-        let Writer { newest, count } = self.writers[txn as usize];
-        let count = count.saturating_add(1);
-        self.before.push(newest)?;
-        self.writers[txn as usize] = Writer {
-            newest: rows.len() as u32,
-            count,
-        };
-        if count > FEW {
+        let writer = &mut self.writers[txn as usize];
+        self.before.push(writer.newest)?;
+        writer.newest = rows.len() as u32;
+        writer.count = writer.count.saturating_add(1);
+        if writer.count > FEW {
             self.table.add_from(rows, self.in_table)?;
             self.in_table = rows.len();
         }

@@ -71,11 +71,7 @@ impl Log {
     {
         match self.row(place) {
             Some(Row::Read { key: own, saw, .. } | Row::OwnRead { key: own, saw, .. }) => {
-                if self.key(own) == key {
-                    Some(self.version(saw))
-                } else {
-                    None
-                }
+                (self.key(own) == key).then_some(self.version(saw))
             }
             Some(Row::Range { range, .. }) => {
                 let (lo, hi) = self.range(range);

@@ -1,11 +1,12 @@
 -- A finder that finds names goes on finding them where one more is taken in.
-use Rattle.std.proofs.Common.{◌≡◌, ◌≢◌, ◌⊎◌, inl, inr, ℕ, ◌+◌, ◌<◌, ◌≤◌, nat_lt, Bool, true, false, List, [], ◌∷◌, ◌++◌, length, set, Option, Some, None, refl, sym, subst, ◌∙◌, arith, slice_get, ap}
-use Rattle.std.specs.Prelude.{◌==◌}
+use Rattle.std.proofs.Common.{Bor, ◌≡◌, ◌≢◌, ◌⊎◌, inl, inr, ℕ, ◌+◌, ◌-◌, ◌<◌, ◌≤◌, ltb, nat_lt, Bool, true, false, List, get_or, [], ◌∷◌, ◌++◌, length, set, Option, Some, None, refl, sym, subst, ◌∙◌, arith, slice_get, ap}
+use Rattle.std.specs.Prelude.{◌==◌, IfSome, is_some}
+use Rattle.std.specs.Option.{option_copied, option_eq}
 use Rattle.std.specs.BTreeMap.{is_at, get}
 use Rattle.std.specs.Ordering.{nat_cmp}
 use Rattle.std.proofs.lemmas.Bool.Decides.{nat_tests}
-use Rattle.std.proofs.lemmas.Bool.{eqb-true}
-use Rattle.std.proofs.lemmas.Option.{slice_get_within}
+use Rattle.std.proofs.lemmas.Bool.{eqb-true, ltb-false, ltb-true}
+use Rattle.std.proofs.lemmas.Option.{slice_get_past, slice_get_read, slice_get_within}
 use Rattle.sia_events.specs.declared.finder.Finder.{Finder}
 use Rattle.sia_events.specs.Finding.{home, AreTaken, IsInSlots, IsInTree, IsOther, Reaches, Finds, FindsBelow}
 use Rattle.sia_events.proofs.LogRows.RowsRead.{set_here, get_more, get_less, set_cases, set_apart}
@@ -123,6 +124,29 @@ not_found f names name from step end is all others none finds n within here = el
   | inl (d, m, less, at, named, taken) ↦ (others d (omega arith)).1 m (rw (is) at) named
   | inr (m, at, named, taken) ↦ none m at named
 ]
+
+-- what is copied from a list
+pub copied_is : {X : Type 0} (xs : List X) (i : ℕ) (got : Option (Bor X)) → is_some got ≡ ltb i (length xs) → IfSome got (λ x. x.now ≡ get_or xs i x.now) → option_copied got ≡ slice_get xs i
+copied_is xs i None none at = sym (slice_get_past xs i (ltb-false i (length xs) (sym none)))
+copied_is xs i (Some x) some at = sym (slice_get_read xs (length xs) i x.now refl (ltb-true i (length xs) (sym some)) at)
+
+pub equal_some : (o : Option ℕ) (n : ℕ) → true ≡ option_eq (λ x y. x == y) o (Some n) → o ≡ Some n
+equal_some None n e = absurd cc
+equal_some (Some m) n e = ap Some (eqb-true m n (sym e))
+
+-- a slot that isn't free, and whose row hasn't the name
+pub other_slot : (slots names : List ℕ) (at name : ℕ) (found : Option ℕ) (slot : ℕ) → found ≡ slice_get slots at → found ≡ Some slot → slot ≢ 0 → slice_get names (slot - 1) ≢ Some name → IsOther slots names at name
+other_slot slots names at name found slot is there taken other = (
+  (λ free. let same : Some slot ≡ Some 0 = sym there ∙ is ∙ free in taken cc),
+  λ n here named.
+      let same : Some slot ≡ Some (n + 1) = sym there ∙ is ∙ here in
+      let e : slot ≡ n + 1 = cc in
+      let less : n ≡ slot - 1 = omega arith in
+      other (subst (λ m. slice_get names m ≡ Some name) less named),
+)
+
+pub no_slot : (slots names : List ℕ) (at name : ℕ) (found : Option ℕ) → found ≡ slice_get slots at → found ≡ None → IsOther slots names at name
+no_slot slots names at name found is none = ((λ free. let same : None ≡ Some 0 = sym none ∙ is ∙ free in absurd cc), λ n here named. let same : None ≡ Some (n + 1) = sym none ∙ is ∙ here in absurd cc)
 
 pub one_more_other : (slots names : List ℕ) (from name step : ℕ) → ((e : ℕ) → e < step → IsOther slots names (from + e) name) → IsOther slots names (from + step) name → (e : ℕ) → e < step + 1 → IsOther slots names (from + e) name
 one_more_other slots names from name step others one e less = by_step (e == step) refl where

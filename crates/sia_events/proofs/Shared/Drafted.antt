@@ -434,6 +434,17 @@ own_read names d kd s t k v is_txn is_key seen own =
       marked = λ h same. rw (txn, key, ← same) own;
     }
 
+pub first_read : (names : Names) (d kd s t k v w : ℕ) → slice_get names.txns d ≡ Some t → slice_get names.keys kd ≡ Some k → IsSeen names k v s → w ≡ 0 → IsWriteOr names (k, t) w → IsReadRow names t k v (rows.Read d kd s)
+first_read names d kd s t k v w is_txn is_key seen none new =
+    let txn : txn_at names d ≡ t = get_or_from_slice_get names.txns d t 0 is_txn in
+    let key : key_at names kd ≡ k = get_or_from_slice_get names.keys kd k 0 is_key in
+    let version = version_seen names k v s seen in
+    record {
+      spells = rw (txn, key, version) refl;
+      within = (slice_get_within names.txns d t is_txn, slice_get_within names.keys kd k is_key, rw (key, version) seen);
+      marked = λ h same. rw (txn, key, ← same) (rw none at new);
+    }
+
 pub write_there : (names : Names) (p : ℕ × ℕ) (w : ℕ) → w ≢ 0 → IsWriteOr names p w → list_any (same_pair p) names.writes ≡ true
 write_there names p zero some is = absurd (some refl)
 write_there names p (suc w) some is = pair_there names.writes w p is

@@ -13,12 +13,12 @@ use Rattle.sia_events.proofs.own_writes.OwnWrites.add.Goals as goal
 pub returns-in_ok-add_from-clause-tracks : goal.returns-in_ok-add_from-clause-tracks
 returns-in_ok-add_from-clause-tracks c = λ before key is t.
     let l = length-append before (new_write c.args.txn key ∷ []) in
-    let x = slice_get-get_or c.args.self.now.writers.items c.args.txn c.index.result.now c.requires.place ∙ ap Some (sym c.index.ensures) in
+    let x = slice_get-get_or c.args.self.now.writers.items c.args.txn c.index_mut-writer.result.now c.requires.place ∙ ap Some (sym c.index_mut-writer.ensures.value) in
     let table = c.in_ok-add_from.ensures (subst (λ (rows : List WriteRow). FindsBelow c.args.self.now.table (map write_code rows) c.args.self.now.in_table) (sym is) (table_more c.args.self.now before (new_write c.args.txn key) t)) in
-    rw (is) (tracked c.args.self.now _ before c.args.txn key c.index.result.now _ t x refl l c.in_ok-push.ensures.items (omega (arith, t.lags)) (inl (omega arith)) (finds_below _ _ _ (subst (λ (rows : List WriteRow). Finds c.add_from.new.self (map write_code rows)) is table)) (omega arith))
+    rw (is) (tracked c.args.self.now _ before c.args.txn key c.index_mut-writer.result.now _ t x refl l c.in_ok-push.ensures.items (omega (arith, t.lags)) (inl (omega arith)) (finds_below _ _ _ (subst (λ (rows : List WriteRow). Finds c.add_from.new.self (map write_code rows)) is table)) (omega arith))
 
-pub returns-else-count-gt-FEW-clause-tracks : goal.returns-else-count-gt-FEW-clause-tracks
-returns-else-count-gt-FEW-clause-tracks c = λ before key is t.
+pub returns-else-writer-gt-FEW-clause-tracks : goal.returns-else-writer-gt-FEW-clause-tracks
+returns-else-writer-gt-FEW-clause-tracks c = λ before key is t.
     let l = length-append before (new_write c.args.txn key ∷ []) in
-    let x = slice_get-get_or c.args.self.now.writers.items c.args.txn c.index.result.now c.requires.place ∙ ap Some (sym c.index.ensures) in
-    rw (is) (tracked c.args.self.now _ before c.args.txn key c.index.result.now _ t x refl l c.in_ok-push.ensures.items (omega arith) (inr c.if-count-gt-FEW.false) (table_more c.args.self.now before (new_write c.args.txn key) t) (omega (arith, t.lags)))
+    let x = slice_get-get_or c.args.self.now.writers.items c.args.txn c.index_mut-writer.result.now c.requires.place ∙ ap Some (sym c.index_mut-writer.ensures.value) in
+    rw (is) (tracked c.args.self.now _ before c.args.txn key c.index_mut-writer.result.now _ t x refl l c.in_ok-push.ensures.items (omega arith) (inr c.if-writer-gt-FEW.false) (table_more c.args.self.now before (new_write c.args.txn key) t) (omega (arith, t.lags)))
