@@ -70,14 +70,6 @@ impl Draft {
         })
     }
 
-    /// How many events there are.
-    fn count(&self) -> u32
-        requires { length self.now.tables.events.items ≤ 2 ^ 29 }
-        ensures { result ≡ length self.now.tables.events.items }
-    {
-        self.tables.events.len() as u32
-    }
-
     /// The number of a new transaction.
     fn new_txn(&mut self, name: TxnId, start: u32) -> Result<u32, AllocError>
         requires found { AreFound self.old }
@@ -103,6 +95,7 @@ impl Draft {
     }
 
     /// The number of the transaction, if it has an event.
+    #[inline(always)]
     fn find_txn(&self, name: TxnId) -> Option<u32>
         requires { AreFound self.now }
         ensures { MatchOption result (IsNew (txn_names self.now.tables.txns.items) name)
@@ -136,7 +129,7 @@ impl Draft {
                 Err(Refusal::Bad(Reason::AlreadyEnded))
             }
             None => {
-                let start = self.count();
+                let start = self.tables.events.len() as u32;
                 Ok(self.new_txn(name, start)?)
             }
         }
@@ -260,7 +253,7 @@ impl Draft {
             }
             return Err(Refusal::Bad(Reason::AlreadyEnded));
         }
-        let count = self.count();
+        let count = self.tables.events.len() as u32;
         let at = start.unwrap_or(count);
         if count < at {
             return Err(Refusal::Bad(Reason::BadStart));
@@ -404,7 +397,8 @@ impl Draft {
         ensures { Takes self.old self.new (an_event.Commit txn) result }
     {
         let txn = self.actor(txn)?;
-        self.tables.txns[txn as usize].end = TxnEnd::Committed(self.count() + 1);
+        let place = self.tables.events.len() as u32 + 1;
+        self.tables.txns[txn as usize].end = TxnEnd::Committed(place);
         self.tables.events.push(Row::Commit { txn })?;
         Ok(())
     }
@@ -415,7 +409,8 @@ impl Draft {
         ensures { Takes self.old self.new (an_event.Abort txn) result }
     {
         let txn = self.actor(txn)?;
-        self.tables.txns[txn as usize].end = TxnEnd::Aborted(self.count() + 1);
+        let place = self.tables.events.len() as u32 + 1;
+        self.tables.txns[txn as usize].end = TxnEnd::Aborted(place);
         self.tables.events.push(Row::Abort { txn })?;
         Ok(())
     }

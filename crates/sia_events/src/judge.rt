@@ -19,7 +19,7 @@ use std::simd::prelude::*;
 
 #[derive(Drop)]
 pub(crate) struct Judge {
-    alloc: Global,
+    pub(crate) alloc: Global,
     pub(crate) draft: Draft,
     listing: Listing,
 }
@@ -51,33 +51,8 @@ impl Judge {
         Ok(())
     }
 
-    /// Takes the event of the next token. After `NoMemory` the tables may lack it, or have it without the events.
-    #[tactic(auto, unfolding(crate::specs::Judging::judged))]
-    pub(crate) fn take(&mut self, limits: Limits, token: &[u8]) -> Result<(), Refusal>
-        requires { Knows self.old.draft }
-        ensures taken { OnOk result ((e : AnEvent)
-            × (judged limits (events_of self.old.draft.tables) token.now ≡ Ok e)
-            × ((events_of self.new.draft.tables) ≡ (events_of self.old.draft.tables) ++ e ∷ [])) }
-        ensures knows { OnOk result (Knows self.new.draft) }
-        ensures refused { IfErr result (λ fault. Fails fault
-            (judged limits (events_of self.old.draft.tables) token.now)) }
-        ensures kept { IfErr result (λ fault. Stays fault (events_of self.old.draft.tables)
-            (events_of self.new.draft.tables)) }
-    {
-        let count = self.draft.tables.events.len();
-        let most = limits.events() as usize;
-        if count == most {
-            return Err(Refusal::Bad(Reason::TooManyEvents));
-        }
-        // There are never more.
-        if count > most {
-            return Err(Refusal::NoMemory);
-        }
-        let token = event_of(&mut self.listing, &self.draft, token)?;
-        self.admit(token)
-    }
-
     /// Takes the event of a token beside which its listed pairs stand, unless it has a reason.
+    #[inline(always)]
     fn admit(&mut self, token: Token) -> Result<(), Refusal>
         requires { CanTake self.old.draft }
         ensures { Takes self.old.draft self.new.draft (event_with (mentioned self.old.listing.pairs.items) token) result }
@@ -92,7 +67,7 @@ impl Judge {
         }
     }
 
-    /// Takes the event of the token, if there is one.
+    /// Takes the event of the token, if there is one. After `NoMemory` the tables may lack it, or have it without the events.
     #[tactic(auto, unfolding(crate::specs::Judging::JudgedAll))]
     pub(crate) fn take_some(&mut self, limits: Limits, token: &[u8]) -> Result<(), Refusal>
         requires { Knows self.old.draft }
@@ -106,7 +81,17 @@ impl Judge {
             return Ok(());
         }
         self.make_room(limits.events())?;
-        self.take(limits, token)
+        let count = self.draft.tables.events.len();
+        let most = limits.events() as usize;
+        if count == most {
+            return Err(Refusal::Bad(Reason::TooManyEvents));
+        }
+        // There are never more.
+        if count > most {
+            return Err(Refusal::NoMemory);
+        }
+        let token = event_of(&mut self.listing, &self.draft, token)?;
+        self.admit(token)
     }
 
     /// Takes the events of all tokens that a separator follows, and answers what comes after the last separator.
@@ -190,30 +175,19 @@ fn past_separators(text: &[u8]) -> &[u8]
 /// How many bytes are looked at together: most tokens are shorter.
 const BLOCK: usize = 16;
 
-/// How many bytes of the block that starts there come before the first that is no greater than a space.
-fn plain_at(text: &[u8], start: usize) -> usize
-    requires { start + 16 ≤ length text.now }
-    ensures { result ≡ position_or_len (λ c. nat_le c 32) (chunk start 16 text.now) }
-{
-    let low = u8x16::from_slice(&text[start..])
-        .simd_le(u8x16::splat(b' '))
-        .to_bitmask();
-    if low == 0 {
-        return BLOCK;
-    }
-    low.trailing_zeros() as usize
-}
-
-/// How many bytes come before the first separator, or at all. Where a block has it, the second loop ends at once.
+/// How many bytes come before the first separator, or at all. A block is passed up to its first byte that is no greater than
+/// a space. Where that is a separator, the second loop ends at once.
 pub(crate) fn token_len(text: &[u8]) -> usize
     ensures len { result ≡ position_or_len is_separator text.now }
     ensures within { result ≤ length text.now }
 {
     let mut len = 0;
     while len + BLOCK <= text.len() {
-        let plain = plain_at(text, len);
-        if plain < BLOCK {
-            len += plain;
+        let low = u8x16::from_slice(&text[len..])
+            .simd_le(u8x16::splat(b' '))
+            .to_bitmask();
+        if low != 0 {
+            len += low.trailing_zeros() as usize;
             break;
         }
         len += BLOCK;

@@ -29,21 +29,6 @@ pub(crate) struct SpellingRow {
     pub(crate) behind: u32,
 }
 
-/// How many of the first bytes are the same.
-fn same_len(text: &[u8], bytes: &[u8; BLOCK]) -> u32
-    requires { 16 ≤ length text.now }
-    ensures same { (k : ℕ) → k < result → slice_index text.now k ≡ slice_index bytes.now k }
-    ensures within { result ≤ 16 }
-{
-    let other = u8x16::from_slice(text)
-        .simd_ne(u8x16::from_array(*bytes))
-        .to_bitmask();
-    if other == 0 {
-        return BLOCK as u32;
-    }
-    other.trailing_zeros()
-}
-
 impl Spelling {
     pub(crate) fn of(spelled: &[u8], key: Key, saw: Version) -> Spelling
         requires { SpellsPair spelled.now key saw }
@@ -70,7 +55,10 @@ impl Spelling {
         if text.len() < BLOCK {
             return text.starts_with(&self.bytes[..self.len as usize]);
         }
-        self.len <= same_len(text, &self.bytes)
+        let other = u8x16::from_slice(text)
+            .simd_ne(u8x16::from_array(self.bytes))
+            .to_bitmask();
+        self.len <= other.trailing_zeros().min(BLOCK as u32)
     }
 
     /// What follows the pair, where the text begins with its spelling and goes on with no digit, and whether that is a comma.

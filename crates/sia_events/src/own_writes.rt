@@ -11,7 +11,7 @@ use std::alloc::{AllocError, Global};
 const FEW: u32 = 12;
 
 /// What is known of a transaction's writes.
-#[derive(Clone, Copy)]
+#[derive(Clone, Copy, Default)]
 struct Writer {
     /// From 1, or 0 where there is none.
     newest: u32,
@@ -48,10 +48,7 @@ impl OwnWrites {
         ensures longer { OnOk result (self.new.writers.items ≡ self.old.writers.items ++ no_writes ∷ []) }
         ensures kept { (rows : List AWriteRow) → Tracks self.old rows → OnOk result (Tracks self.new rows) }
     {
-        self.writers.push(Writer {
-            newest: 0,
-            count: 0,
-        })?;
+        self.writers.push(Writer::default())?;
         Ok(())
     }
 

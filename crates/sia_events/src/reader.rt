@@ -25,7 +25,6 @@ use std::marker::Model;
 /// for that, whatever else it holds.
 #[derive(Drop)]
 pub struct TextReader {
-    alloc: Global,
     limits: Limits,
     judge: Judge,
     count: u64,
@@ -68,7 +67,6 @@ impl TextReader {
     {
         limits.law();
         TextReader {
-            alloc,
             limits,
             judge: Judge::new(alloc),
             count: 0,
@@ -129,7 +127,7 @@ impl TextReader {
             → ReadsAs limits text result }
         ensures lost { self.lost ≡ true → result ≡ Err OutOfMemory }
     {
-        let alloc = self.alloc;
+        let alloc = self.judge.alloc;
         let log = self.finish_log()?;
         History::of(alloc, log).map_err(|_| TextFault::NoMemory)
     }

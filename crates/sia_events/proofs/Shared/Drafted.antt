@@ -1,4 +1,5 @@
 -- What the tables of a log that is being made say of names, and what one event more makes of them.
+use Rattle.std.specs.Vec.{vec_len}
 use Rattle.std.proofs.Common.{◌≡◌, ◌≢◌, ◌⊎◌, inl, inr, ℕ, zero, suc, ◌+◌, ◌-◌, ◌<◌, ◌≤◌, Bool, true, false, List, [], ◌∷◌, ◌++◌, length, map, take, set, get_or, Option, Some, None, refl, sym, subst, ◌∙◌, ap, ap₂, arith, slice_get}
 use Rattle.std.specs.Prelude.{All, ◌==◌, ◌*◌, ◌||◌, MatchOption}
 use Rattle.std.specs.List.{list_any, list_all, fold}
@@ -829,3 +830,6 @@ none_known d txns keys writes ranges pairs events fx fk fw fs =
         seen = subst (AreSeen (names_in d.tables)) (sym fs) (λ i x at. absurd (let e : None ≡ Some x = at in cc));
       },
     )
+
+pub counted : (t : Tables) (n : ℕ) → n ≡ vec_len t.events → n ≡ length (events_of t)
+counted t n is = let ok = t.events.ok in let l = length-map t.events.items (event_of (names_in t)) in omega (arith, is)

@@ -1,8 +1,10 @@
 -- A pair is read from the bytes that spell it alone, and so it is read again where these stand again.
 use Rattle.std.proofs.Common.{inl, inr, ◌≡◌, ℕ, zero, suc, ◌+◌, ◌-◌, ◌%◌, ◌^◌, ◌<◌, ◌≤◌, Bool, true, false, not, cond, List, [], ◌∷◌, ◌++◌, length, take, drop, map, get_or, Some, Result, Ok, Err, refl, ap, sym, subst, ◌∙◌, append_assoc, map-id, nat_eq, w8, arith}
+use Rattle.std.specs.Int.{trailing_zeros, w64}
 use Rattle.std.specs.List.{prefix_len}
 use Rattle.std.specs.Simd.Lanes.{mask_l, zip2, top}
-use Rattle.std.proofs.lemmas.Simd.{tops_compared, mask_l-mod, length-zip2, get_or-zip2}
+use Rattle.std.proofs.lemmas.Simd.{leading_from_mask_l, trailing_mask_l, tops_compared, mask_l-mod, length-zip2, get_or-zip2}
+use Rattle.std.proofs.lemmas.Bool.{cases_eq}
 use Rattle.std.proofs.lemmas.Bool.Decides.{nat_tests}
 use Rattle.std.proofs.lemmas.List.{take-append-drop, length-append, length-take-le, get_or-take}
 use Rattle.std.proofs.lemmas.List.Sums.{prefix_len_passes, prefix_len-le-length, prefix_len-drop_no}
@@ -89,3 +91,10 @@ spelled_again text bytes len key saw within long same stops spells =
     let front : take len text ≡ take len bytes = same_front len text bytes (omega arith) long same in
     let whole : text ≡ take len bytes ++ drop len text = sym (take-append-drop len text) ∙ ap (λ xs. xs ++ drop len text) front in
     ap pair_at whole ∙ spells (drop len text) (prefix_len-drop_no is_digit text len 0 within stops)
+
+-- so many lanes are the same as the lowest bit of the mask says, and no more than there are
+pub few_same : (ms : List Bool) (m least : ℕ) → length ms ≡ 16 → m ≡ mask_l (map (λ (b : Bool). b) ms) → least ≤ trailing_zeros w64 m → least ≤ 16 → least ≤ prefix_len not ms
+few_same ms m least long is low few = elim (cases_eq m 0) [
+  | inl none ↦ let all = leading_from_mask_l (λ (b : Bool). b) ms (sym is ∙ none) in omega (arith, all, long)
+  | inr some ↦ let first = ap (trailing_zeros w64) is ∙ trailing_mask_l (λ (b : Bool). b) 64 ms (omega arith) (omega arith) in omega (arith, first)
+]

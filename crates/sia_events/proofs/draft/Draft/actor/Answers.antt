@@ -1,10 +1,7 @@
 -- The transaction is there, and hasn't ended, or it is new.
-use Rattle.std.proofs.Common.{◌++◌, ◌∷◌, [], sym, inr, ◌∙◌, ap}
-use Rattle.std.proofs.lemmas.List.{length-map}
+use Rattle.std.proofs.Common.{◌++◌, ◌∷◌, [], inr, ◌∙◌, ap}
 use Rattle.sia_events.specs.Drafts.{new_txn}
-use Rattle.sia_events.specs.LogTables.{names_in}
-use Rattle.sia_events.specs.Numbering.{event_of}
-use Rattle.sia_events.proofs.Shared.Drafted.{found_of, tables_of, txn_within, new_going}
+use Rattle.sia_events.proofs.Shared.Drafted.{counted, found_of, tables_of, txn_within, new_going}
 use Rattle.sia_events.proofs.draft.Draft.actor.Goals as goal
 
 pub find_txn-requires : goal.find_txn-requires
@@ -24,5 +21,5 @@ returns-in_ok-new_txn-in-None-clause-acts c = record {
   same = c.in_ok-new_txn-in-None.ensures.same;
   going = new_going c.args.self.now.tables c.args.name (tables_of c.args.self.now c.requires.knows) c.in-None.ensures;
   is = c.in_ok-new_txn-in-None.ensures.is;
-  rows = inr (c.in-None.ensures, c.in_ok-new_txn-in-None.ensures.rows ∙ ap (λ s. c.args.self.now.tables.txns.items ++ new_txn c.args.name s ∷ []) (c.count-start.ensures ∙ sym (length-map c.args.self.now.tables.events.items (event_of (names_in c.args.self.now.tables)))));
+  rows = inr (c.in-None.ensures, c.in_ok-new_txn-in-None.ensures.rows ∙ ap (λ s. c.args.self.now.tables.txns.items ++ new_txn c.args.name s ∷ []) (counted c.args.self.now.tables c.len-start.result c.len-start.ensures));
 }

@@ -29,7 +29,7 @@ own_none h n t = refl
 
 pub returns : goal.returns
 returns c =
-    let count : suc (length (events_of c.args.self.now.tables)) ≡ c.count.result + 1 = (let l = length-map c.args.self.now.tables.events.items (event_of (names_in c.args.self.now.tables)) in let same = ap length c.in_ok-txn.ensures.acts.same.events in omega (arith, c.count.ensures)) in
-    ends_now c.args.self.now c.actor.new.self _ c.args.txn c.in_ok-txn.txn (Commit c.args.txn) (rows.Commit c.in_ok-txn.txn) c.index_mut.result.now (record { name = c.index_mut.result.now.name; start = c.index_mut.result.now.start; end = Committed (c.count.result + 1) }) c.requires.knows c.in_ok-txn.ensures.acts c.in_ok-txn.ensures.found c.index_mut.ensures.value refl refl
+    let count : suc (length (events_of c.args.self.now.tables)) ≡ c.len.result + 1 = (let l = length-map c.args.self.now.tables.events.items (event_of (names_in c.args.self.now.tables)) in let same = ap length c.in_ok-txn.ensures.acts.same.events in omega (arith, c.len.ensures)) in
+    ends_now c.args.self.now c.actor.new.self _ c.args.txn c.in_ok-txn.txn (Commit c.args.txn) (rows.Commit c.in_ok-txn.txn) c.index_mut.result.now (record { name = c.index_mut.result.now.name; start = c.index_mut.result.now.start; end = Committed (c.len.result + 1) }) c.requires.knows c.in_ok-txn.ensures.acts c.in_ok-txn.ensures.found c.index_mut.ensures.value refl refl
     (subst (λ p. at_place (events_of c.args.self.now.tables ++ Commit c.args.txn ∷ []) p ≡ Some (Commit c.args.txn)) count (at_last (events_of c.args.self.now.tables) (Commit c.args.txn)))
     refl refl refl refl refl refl refl refl refl c.in_ok-push.ensures.items refl refl refl refl refl (λ m ne. ne_eqb m c.args.txn ne) (λ names less. less) (λ names is. ap (λ t. Commit t) is) (λ names h. tt) (own_none (events_of c.args.self.now.tables) (length (events_of c.args.self.now.tables)) c.args.txn)
