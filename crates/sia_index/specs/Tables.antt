@@ -71,15 +71,16 @@ pub record AreWritePlaces (h : List Event) (n : ℕ) (places : List ℕ) : Type 
   pub long : length places ≡ length (writes_of h)
   pub each : (w k t p : ℕ) → slice_get (writes_of h) w ≡ Some (k, t) → WritesAt h t k p → n < p → WritesAt h t k (slice_index places w) × (slice_index places w ≤ p)
 
--- the writes of each key, of each transaction the places of its own among them, and where each stands in the history, by write and by transaction
+-- the writes of each key, of each transaction the places of its own among them, and where these stand in the history
 pub record AreWriteTables (h : List Event) (keys : List ℕ) (w : Writes) : Type 0 where
   pub key_count : length w.by_key ≡ length keys
   pub by_key : (i : ℕ) → i < length keys → ListsAscending (λ n. (t : ℕ) × (slice_get (writes_of h) n ≡ Some (slice_index keys i, t))) (slice_index_or w.by_key i [])
   pub rise : AllPairs (λ m n. Precedes ((write_at (names_of h) m).0 ∷ m ∷ []) ((write_at (names_of h) n).0 ∷ n ∷ [])) (joined w.by_key)
   pub txn_count : length w.by_txn ≡ length (txns_of h)
   pub by_txn : (d : ℕ) → d < length (txns_of h) → ListsAscending (λ p. (n k : ℕ) × (slice_get (joined w.by_key) p ≡ Some n) × (slice_get (writes_of h) n ≡ Some (k, slice_index (txns_of h) d))) (slice_index_or w.by_txn d [])
-  pub places : AreWritePlaces h 0 w.places.items
-  pub own_places : IsColumn (λ p. slice_index w.places.items (slice_index (joined w.by_key) p)) (joined w.by_txn) (length (joined w.by_txn)) w.own_places.items
+  pub places : List ℕ
+  pub places_are : AreWritePlaces h 0 places
+  pub own_places : IsColumn (λ p. slice_index places (slice_index (joined w.by_key) p)) (joined w.by_txn) (length (joined w.by_txn)) w.own_places.items
   pub minima_are : AreMinima (λ place. place) w.own_places.items w.minima.items
 
 pub record AreTables (h : List Event) (t : Txns) (k : Keys) (v : Versions) (w : Writes) : Type 0 where

@@ -183,13 +183,14 @@ impl Index {
             .writes
             .by_key
             .span(find::<Key, ByKey>(&self.keys.keys, k)?);
-        let own = self.writes.by_txn.at(txn as usize);
-        let at = *own.get(place_from::<u32, ByPlace>(own, from as u64))? as usize;
-        if at >= to {
+        let (first, end) = self.writes.by_txn.span(txn as usize);
+        let own = &self.writes.by_txn.rows()[first..end];
+        let at = place_from::<u32, ByPlace>(own, from as u64);
+        let stands = *own.get(at)? as usize;
+        if stands >= to {
             return None;
         }
-        let write = self.writes.by_key.rows()[at];
-        Some(self.writes.places[write as usize])
+        Some(self.writes.own_places[first + at])
     }
 }
 

@@ -29,12 +29,11 @@ impl By<Written> for ByKey {
 }
 
 /// The writes of each key, in the order of the log; of each transaction where its own stand among these, so that they are by key;
-/// and of each write its place in the history. These stand by transaction, too, with the least of them in a row.
+/// and their places in the history, transaction by transaction, with the least of them in a row.
 #[derive(Drop)]
 pub struct Writes {
     pub by_key: Lists<u32>,
     pub by_txn: Lists<u32>,
-    pub places: Vec<u32>,
     pub own_places: Vec<u32>,
     pub minima: Vec<u64>,
 }
@@ -69,7 +68,6 @@ pub fn writes_of(
     let writes = Writes {
         by_key,
         by_txn,
-        places,
         minima: minima_of::<u32, ByPlace>(alloc, &own_places)?,
         own_places,
     };

@@ -98,11 +98,11 @@ module _ (h : List Event) (keys : List ℕ) (keys_are : AreWrittenKeys h keys) (
   wrote_some some = let (m, k, is) = own_at 0 0 some in (k, numbered_wrote h m k t is.1)
 
   -- the place of a write is the first one of its key
-  pub first_place : (m k : ℕ) → slice_get (writes_of h) m ≡ Some (k, t) → IsFirstWrite h t k (slice_index w.places.items m)
+  pub first_place : (m k : ℕ) → slice_get (writes_of h) m ≡ Some (k, t) → IsFirstWrite h t k (slice_index are.places m)
   first_place m k at =
       let wrote = numbered_wrote h m k t at in (
-        (are.places.each m k t wrote.0 at wrote.1 (place_within h wrote.0 (Write t k) wrote.1).0).0,
-        λ q writes. (are.places.each m k t q at writes (place_within h q (Write t k) writes).0).1,
+        (are.places_are.each m k t wrote.0 at wrote.1 (place_within h wrote.0 (Write t k) wrote.1).0).0,
+        λ q writes. (are.places_are.each m k t q at writes (place_within h q (Write t k) writes).0).1,
       )
 
   -- where a key's list stands from one place up to another, the transaction's write at the point of the first is that of the key, or it has none
@@ -134,7 +134,7 @@ module _ (h : List Event) (keys : List ℕ) (keys_are : AreWrittenKeys h keys) (
 
   -- none of the first places has a write of a key from lo to hi before the place
   abbrev pub PassedOwn : ℕ → ℕ → ℕ → ℕ → Type 0
-  PassedOwn lo hi place n = (j d m k : ℕ) → j < n → IsOwn (slice_index_or own j d) m k → lo ≤ k → k ≤ hi → place ≤ slice_index w.places.items m
+  PassedOwn lo hi place n = (j d m k : ℕ) → j < n → IsOwn (slice_index_or own j d) m k → lo ≤ k → k ≤ hi → place ≤ slice_index are.places m
 
   pub none_own : (lo hi place : ℕ) → PassedOwn lo hi place (length own) → PassesNone (λ k. WroteBefore h t k place) lo hi None
   none_own lo hi place passed k low high (q, before, writes) =
@@ -189,25 +189,27 @@ module _ (h : List Event) (keys : List ℕ) (keys_are : AreWrittenKeys h keys) (
       let inside : i < length keys = omega (arith, are.key_count) in
       (i, up, inside, key_is i p m k inside c is)
 
-  -- those of the transaction between the starts of the first key that is asked for and of the one behind the last
-  module _ (from to : ℕ) (order : from ≤ to) (bound : to ≤ length (joined w.by_txn)) (stretch : slice_range (joined w.by_txn) from to ≡ slice_index_or w.by_txn n []) (lo hi place low high first last : ℕ) (most : last ≤ length (slice_index_or w.by_txn n [])) (is_low : PointBelow (λ (k : ℕ). k) keys lo low) (is_high : PointWithin (λ (k : ℕ). k) keys hi high)
-      (is_first : PointBelow (λ (p : ℕ). p) (slice_index_or w.by_txn n []) (length (joined (take low w.by_key))) first) (is_last : PointBelow (λ (p : ℕ). p) (slice_index_or w.by_txn n []) (length (joined (take high w.by_key))) last) where
+  -- where those of the transaction stand among all, their places stand among all places
+  module _ (from to : ℕ) (order : from ≤ to) (bound : to ≤ length (joined w.by_txn)) (stretch : slice_range (joined w.by_txn) from to ≡ slice_index_or w.by_txn n []) where
     row_at : (j d : ℕ) → j < length own → slice_index_or own j d ≡ slice_index_or (joined w.by_txn) (from + j) d
     row_at j d below =
         let long = length-between (joined w.by_txn) from to bound in
         let same = ap length stretch in
         ap (λ xs. slice_index_or xs j d) (sym stretch) ∙ get_or-between (joined w.by_txn) from to j d (omega arith)
 
-    inside_all : (j : ℕ) → j < length own → from + j < length (joined w.by_txn)
+    pub inside_all : (j : ℕ) → j < length own → from + j < length (joined w.by_txn)
     inside_all j below = let long = length-between (joined w.by_txn) from to bound in let same = ap length stretch in omega arith
 
-    place_at : (j d m k : ℕ) → j < length own → IsOwn (slice_index_or own j d) m k → slice_index w.own_places.items (from + j) ≡ slice_index w.places.items m
+    pub place_at : (j d m k : ℕ) → j < length own → IsOwn (slice_index_or own j d) m k → slice_index w.own_places.items (from + j) ≡ slice_index are.places m
     place_at j d m k below is =
         let count = are.own_places.0 in
         are.own_places.1 (from + j) 0 d (let inside = inside_all j below in omega arith)
-        ∙ ap (λ p. slice_index w.places.items (slice_index (joined w.by_key) p)) (sym (row_at j d below))
-        ∙ ap (slice_index w.places.items) (get_or_from_slice_get (joined w.by_key) (slice_index_or own j d) m 0 is.0)
+        ∙ ap (λ p. slice_index are.places (slice_index (joined w.by_key) p)) (sym (row_at j d below))
+        ∙ ap (slice_index are.places) (get_or_from_slice_get (joined w.by_key) (slice_index_or own j d) m 0 is.0)
 
+  -- those of the transaction between the starts of the first key that is asked for and of the one behind the last
+  module _ (from to : ℕ) (order : from ≤ to) (bound : to ≤ length (joined w.by_txn)) (stretch : slice_range (joined w.by_txn) from to ≡ slice_index_or w.by_txn n []) (lo hi place low high first last : ℕ) (most : last ≤ length (slice_index_or w.by_txn n [])) (is_low : PointBelow (λ (k : ℕ). k) keys lo low) (is_high : PointWithin (λ (k : ℕ). k) keys hi high)
+      (is_first : PointBelow (λ (p : ℕ). p) (slice_index_or w.by_txn n []) (length (joined (take low w.by_key))) first) (is_last : PointBelow (λ (p : ℕ). p) (slice_index_or w.by_txn n []) (length (joined (take high w.by_key))) last) where
     between : (j d m k : ℕ) → j < length own → IsOwn (slice_index_or own j d) m k → lo ≤ k → k ≤ hi → (first ≤ j) × (j < last)
     between j d m k below is low_k high_k = (
       elim (cases_lt j first) [
@@ -232,7 +234,7 @@ module _ (h : List Event) (keys : List ℕ) (keys_are : AreWrittenKeys h keys) (
     none_between above = none_own lo hi place (λ j d m k below is low_k high_k.
         let (a, b) = between j d m k below is low_k high_k in
         let over = above (from + j) 0 (omega arith) (omega arith) in
-        let same = place_at j d m k below is in
+        let same = place_at from to order bound stretch j d m k below is in
         omega arith)
 
     pub some_between : (q : ℕ) → IsNextBelow (λ p. p) w.own_places.items (from + first) (from + last) place q → (m k : ℕ) × (IsOwn (slice_index (joined w.by_txn) q) m k × PassesNone (λ k. WroteBefore h t k place) lo hi (Some k))
@@ -243,7 +245,7 @@ module _ (h : List Event) (keys : List ℕ) (keys_are : AreWrittenKeys h keys) (
         let e_q : from + j ≡ q = omega arith in
         let inside : j < length own = omega arith in
         let (m, k, is) = own_at j 0 inside in
-        let here : slice_index_or own j 0 ≡ slice_index (joined w.by_txn) q = row_at j 0 inside ∙ ap (slice_index (joined w.by_txn)) e_q in
+        let here : slice_index_or own j 0 ≡ slice_index (joined w.by_txn) q = row_at from to order bound stretch j 0 inside ∙ ap (slice_index (joined w.by_txn)) e_q in
         let over = point_from (λ (p : ℕ). p) own (start low) first is_first j 0 (omega arith) inside in
         let under = point_below (λ (p : ℕ). p) own (start high) last is_last j 0 inside (omega arith) in
         let (a, a_up, a_in, a_key) = behind low (slice_index_or own j 0) m k over is in
@@ -258,7 +260,7 @@ module _ (h : List Event) (keys : List ℕ) (keys_are : AreWrittenKeys h keys) (
                 (λ i d n l less own_is l_low l_high.
                 let (c, c') = between i d n l (omega arith) own_is l_low l_high in
                 let above = next.3 (from + i) 0 (omega arith) (omega arith) in
-                let same = place_at i d n l (omega arith) own_is in
+                let same = place_at from to order bound stretch i d n l (omega arith) own_is in
                 omega arith)
                 is (omega arith) (omega arith),
           ),

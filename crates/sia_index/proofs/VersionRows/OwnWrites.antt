@@ -126,8 +126,8 @@ module _ (h : List Event) (keys : List ℕ) (keys_are : AreWrittenKeys h keys) (
       rise m n first second (inr (same, less)) = inr (sym first.1 ∙ ap (slice_index keys) same ∙ second.1, inl less)
 
   -- with the places of the transactions' own they are the tables
-  pub write_tables : (by_key by_txn : List (List ℕ)) (txns : List ℕ) (places firsts minima : Vec ℕ Global) → by_key ≡ places_by (λ (w : Written). w.key) (length keys) written → TxnsSoFar h (joined by_key) (length (joined by_key)) txns → by_txn ≡ places_by (λ (m : ℕ). m) (length (txns_of h)) txns → AreWritePlaces h 0 places.items → IsColumn (λ p. slice_index places.items (slice_index (joined by_key) p)) (joined by_txn) (length (joined by_txn)) firsts.items → AreMinima (λ place. place) firsts.items minima.items
-      → AreWriteTables h keys (record { by_key = by_key; by_txn = by_txn; places = places; own_places = firsts; minima = minima })
+  pub write_tables : (by_key by_txn : List (List ℕ)) (txns places : List ℕ) (firsts minima : Vec ℕ Global) → by_key ≡ places_by (λ (w : Written). w.key) (length keys) written → TxnsSoFar h (joined by_key) (length (joined by_key)) txns → by_txn ≡ places_by (λ (m : ℕ). m) (length (txns_of h)) txns → AreWritePlaces h 0 places → IsColumn (λ p. slice_index places (slice_index (joined by_key) p)) (joined by_txn) (length (joined by_txn)) firsts.items → AreMinima (λ place. place) firsts.items minima.items
+      → AreWriteTables h keys (record { by_key = by_key; by_txn = by_txn; own_places = firsts; minima = minima })
   write_tables by_key by_txn txns places firsts minima is so own at column tree =
       let lists = own_places h (joined by_key) txns so in
       record {
@@ -136,7 +136,8 @@ module _ (h : List Event) (keys : List ℕ) (keys_are : AreWrittenKeys h keys) (
         rise = rw is writes_rise;
         txn_count = rw own lists.0;
         by_txn = rw own lists.1;
-        places = at;
+        places = places;
+        places_are = at;
         own_places = column;
         minima_are = tree;
       }
