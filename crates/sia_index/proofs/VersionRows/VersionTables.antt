@@ -1,5 +1,5 @@
 -- The tables of versions, as loops over their rows fill them.
-use Rattle.std.proofs.Common.{◌≡◌, ◌≢◌, inl, inr, ℕ, zero, suc, ◌%◌, ◌+◌, ◌-◌, ◌<◌, ◌≤◌, List, [], ◌∷◌, ◌++◌, length, set, Some, refl, sym, subst, ◌∙◌, ap, arith, slice_get}
+use Rattle.std.proofs.Common.{◌≡◌, ◌≢◌, inl, inr, ℕ, zero, suc, ◌%◌, ◌+◌, ◌-◌, ◌<◌, ◌≤◌, List, [], ◌∷◌, ◌++◌, length, map, set, Some, refl, sym, subst, ◌∙◌, ap, arith, slice_get}
 use Rattle.std.specs.Prelude.{All, AllPairs, Contains, slice_index, slice_index_or}
 use Rattle.std.proofs.lemmas.Bool.{cases_lt, cases_eq}
 use Rattle.std.proofs.lemmas.List.{get_or_default, get_or_append_left, get_or_push, get_or-set_same, get_or-set_other, length-set, length_push}
@@ -17,6 +17,10 @@ use Rattle.sia_events.proofs.OfLaws.Endings.{one_committer}
 
 abbrev pub no_row : VersionRow
 no_row = record { key = 0; commit = 0; maker = 0; write = 0 }
+
+-- the rows at places
+abbrev pub rows_at : List VersionRow → List ℕ → List VersionRow
+rows_at rows places = map (λ (p : ℕ). slice_index_or rows p no_row) places
 
 -- less 1, in 32 bits, a commit is how many events stand before it
 pub before_wrapped : (n : ℕ) → n < 4294967296 → (n + 4294967295) % 4294967296 ≡ before_commit n
