@@ -18,7 +18,6 @@ pub mod Numbered
 pub mod PartedLists
 pub mod PositionEdges
 pub mod Positions
-pub mod Ranges
 pub mod ReadyOrders
 pub mod Renamed
 pub mod RowLists

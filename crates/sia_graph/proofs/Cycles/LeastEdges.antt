@@ -1,6 +1,5 @@
 -- The least edge from one transaction to another, in a sorted list.
-use Rattle.std.proofs.Common.{◌≡◌, ◌⊎◌, inl, inr, ℕ, ◌<◌, ◌≤◌, true, false, List, [], ◌∷◌, length, get_or, ltb, eqb, ap, sym, ◌∙◌, subst, arith}
-use Rattle.std.specs.Prelude.{Contains, AllPairs}
+use Rattle.std.proofs.Common.{◌≡◌, ◌⊎◌, inl, inr, ℕ, ◌<◌, ◌≤◌, true, false, List, [], ◌∷◌, length, get_or, ltb, eqb, ap, sym, ◌∙◌, subst, arith, Contains, AllPairs}
 use Rattle.std.specs.List.Sorted.{IsPartitionPoint, IsPartitionedBy}
 use Rattle.std.proofs.lemmas.Bool.{cases_lt, cases_eq, ltb-true, lt-ltb, eqb-true, eq-eqb, or_left, or_right, or_cases, and_from, and_parts}
 use Rattle.std.proofs.lemmas.List.{get_or_default}
@@ -46,16 +45,12 @@ module _ (edges : List Edge) (sorted : AllPairs (λ d e. Precedes (edge_rank d) 
         let c = leads.1 in
         let e = leads.0 in
         let k = c.0 in
-        let l = no_earlier e leads.2 leads.3 k c.1 c.2 in
-        let in' = point_within leads in
-        let n = not_before d in' in
-        let x = get_or edges i d in
         let at : get_or edges k d ≡ e = get_or_default edges k d e c.1 ∙ c.2 in
         let a : (get_or edges k d).src ≡ s = ap (λ (y : Edge). y.src) at ∙ leads.2 in
         let b : (get_or edges k d).dst ≡ t = ap (λ (y : Edge). y.dst) at ∙ leads.3 in
         elim (cases_eq i k) [
           | inl same ↦ (ap (λ m. (get_or edges m d).src) same ∙ a, ap (λ m. (get_or edges m d).dst) same ∙ b)
-          | inr other ↦ ends x (get_or edges k d) n a b (sorted i k d (omega arith) c.1)
+          | inr other ↦ ends (get_or edges i d) (get_or edges k d) (not_before d (point_within leads)) a b (sorted i k d (omega (arith, no_earlier e leads.2 leads.3 k c.1 c.2)) c.1)
         ]
       where
         ends : (x y : Edge) → ¬ IsBefore s t x → y.src ≡ s → y.dst ≡ t → Precedes (edge_rank x) (edge_rank y) → (x.src ≡ s) × (x.dst ≡ t)
@@ -71,11 +66,10 @@ module _ (edges : List Edge) (sorted : AllPairs (λ d e. Precedes (edge_rank d) 
         let same : x ≡ step_edge (record { txn = s; kind = x.kind; key = x.key }) t = λ j. record { src = ends.0 j; kind = x.kind; dst = ends.1 j; key = x.key } in (
           (i, in', get_or_default edges i (step_edge (record { txn = s; kind = x.kind; key = x.key }) t) d in' ∙ same),
           λ e c a b precedes.
-              let l = no_earlier e a b c.0 c.1 c.2 in
               let at : get_or edges c.0 d ≡ e = get_or_default edges c.0 d e c.1 ∙ c.2 in
               elim (cases_eq i c.0) [
                 | inl here ↦ no_less x e (ap (λ m. get_or edges m d) here ∙ at) precedes
-                | inr other ↦ no_later x e ends.0 ends.1 a b (subst (λ (y : Edge). Precedes (edge_rank x) (edge_rank y)) at (sorted i c.0 d (omega arith) c.1)) precedes
+                | inr other ↦ no_later x e ends.0 ends.1 a b (subst (λ (y : Edge). Precedes (edge_rank x) (edge_rank y)) at (sorted i c.0 d (omega (arith, no_earlier e a b c.0 c.1 c.2)) c.1)) precedes
               ],
         )
       where

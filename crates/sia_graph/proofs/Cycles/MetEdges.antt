@@ -1,21 +1,18 @@
 -- The positions of keys follow one another by the numbers of these.
 -- The edges from one transaction to another are those of the versions that one made and that the other made, saw or missed; and
 -- the least of their keys has the least number.
-use Rattle.std.proofs.Common.{◌≡◌, inl, inr, ℕ, ◌+◌, ◌<◌, ◌≤◌, true, false, ltb, List, [], ◌∷◌, Some, length, get_or, slice_get, refl, ap, subst, ◌∙◌, arith, ◌≢◌, ◌⊎◌, sym}
-use Rattle.std.specs.Prelude.{◌↔◌, Contains, slice_index_or, ⊤}
+use Rattle.std.proofs.Common.{◌≡◌, inl, inr, ℕ, ◌+◌, ◌<◌, ◌≤◌, true, false, ltb, List, ◌∷◌, length, get_or, refl, ap, subst, ◌∙◌, arith, ◌≢◌, ◌⊎◌, sym}
+use Rattle.std.specs.Prelude.{◌↔◌, Contains, ⊤}
 use Rattle.std.specs.List.Sorted.{IsPartitionPoint}
 use Rattle.std.proofs.lemmas.Bool.{cases_lt, ltb-true, ltb-false}
 use Rattle.std.proofs.lemmas.List.{get_or_default}
 use Rattle.std.proofs.lemmas.List.Elements.{Contains-get_or}
-use Rattle.std.proofs.lemmas.Option.{get_or_from_slice_get, slice_get_within}
 use Rattle.sia_events.specs.declared.event.Event.{Event}
-use Rattle.sia_events.specs.Lists.{Precedes, ListsAscending}
-use Rattle.sia_events.specs.Transactions.{Wrote}
-use Rattle.sia_events.proofs.Worked.OneList.{one_list_by}
+use Rattle.sia_events.specs.Lists.{ListsAscending}
 use Rattle.sia_index.specs.Info.{AreWrittenKeys, IsKeyAt}
-use Rattle.sia_index.specs.Positions.{IsAtPosition, IsVersion, AreAllVersions}
+use Rattle.sia_index.specs.Positions.{IsAtPosition, AreAllVersions}
 use Rattle.sia_index.specs.declared.info.KeyVersion.{KeyVersion}
-use Rattle.sia_parts.proofs.Auditing.Passing.{number_from, key_before}
+use Rattle.sia_parts.proofs.Auditing.Passing.{number_from, key_before, has_number}
 use Rattle.sia_parts.proofs.CutKeys.StartLemmas.{increasing}
 use Rattle.sia_parts.specs.declared.accesses.RangeMiss.{RangeMiss}
 use Rattle.sia_parts.specs.declared.finding.Kind.{Kind}
@@ -36,7 +33,7 @@ use Rattle.sia_parts.specs.Entries.{EdgeOfKind, kind_number}
 use Rattle.sia_parts.specs.Sights.{FromSome}
 use Rattle.sia_parts.specs.declared.accesses.Accesses.{Accesses}
 use Rattle.sia_graph.specs.Dangerous.{IsLeast}
-use Rattle.sia_graph.proofs.Shared.PositionEdges.{MadeAt, made_commits, rw_positions, wr_positions, ww_positions}
+use Rattle.sia_graph.proofs.Shared.PositionEdges.{MadeAt, made_commits, rw_positions, wr_positions, ww_positions, keys_rise}
 
 -- from where to before where a version stands that makes an edge of this kind with the one at p
 abbrev pub IsSpan : Kind → ℕ → ℕ → ℕ → ℕ → ℕ → Type 0
@@ -45,25 +42,9 @@ IsSpan Wr p start end from to = (from ≡ start) × (to ≡ p + 1)
 IsSpan Rw p start end from to = (from ≡ p + 1) × (to ≡ end)
 
 module _ (h : List Event) where
-  -- a key that is written has a number
-  pub number_of_key : (keys : List ℕ) → AreWrittenKeys h keys → (k t : ℕ) → Wrote h t k → (j : ℕ) × IsKeyAt h j k
-  number_of_key keys are k t wrote = let w = (are.each k).1 (t, wrote) in (w.0, (keys, are, w.1, get_or_default keys w.0 0 k w.1 ∙ w.2))
-
-  keys_rise : (p q : ℕ) (v w : KeyVersion) → IsAtPosition h p v → IsAtPosition h q w → p < q → v.key ≤ w.key
-  keys_rise p q v w at other less =
-      let there : slice_get at.0 q ≡ Some w = ap (λ (xs : List KeyVersion). slice_get xs q) (one_list_by (λ x. x.key ∷ x.commit ∷ []) (IsVersion h) at.0 other.0 at.1 other.1) ∙ other.2 in
-      let a = get_or_from_slice_get at.0 p v v at.2 in
-      let b = get_or_from_slice_get at.0 q w v there in
-      of_ranks (subst (λ (x : KeyVersion). Precedes (x.key ∷ x.commit ∷ []) (w.key ∷ w.commit ∷ [])) a
-      (subst (λ (x : KeyVersion). Precedes ((slice_index_or at.0 p v).key ∷ (slice_index_or at.0 p v).commit ∷ []) (x.key ∷ x.commit ∷ [])) b (at.1.ascending p q v less (slice_get_within at.0 q w there))))
-    where
-      of_ranks : Precedes (v.key ∷ v.commit ∷ []) (w.key ∷ w.commit ∷ []) → v.key ≤ w.key
-      of_ranks (inl key) = omega arith
-      of_ranks (inr (e, rest)) = omega arith
-
   pub rises : (p q i j : ℕ) → IsKeyOf h p i → IsKeyOf h q j → p ≤ q → i ≤ j
   rises p q i j a b most = elim (cases_lt p q) [
-    | inl less ↦ number_from h b.2.0 b.2.1 i j a.0.key b.0.key a.2 b.2 (keys_rise p q a.0 b.0 a.1 b.1 less)
+    | inl less ↦ number_from h b.2.0 b.2.1 i j a.0.key b.0.key a.2 b.2 (keys_rise h p q a.0 b.0 a.1 b.1 less)
     | inr more ↦
         let same : p ≡ q = omega arith in
         let e = one_key_number h i j b.0.key (subst (λ (v : KeyVersion). IsKeyAt h i v.key) (one_at h q a.0 b.0 (subst (λ n. IsAtPosition h n a.0) same a.1) b.1) a.2) b.2 in
@@ -77,8 +58,7 @@ module _ (h : List Event) where
   pub its_number : (p q i j : ℕ) → IsKeyOf h p i → IsKeyOf h q j → HaveOneKey h p q → i ≡ j
   its_number p q i j a b one =
       let e = ap (λ (x : KeyVersion). x.key) (one_at h p a.0 one.0 a.1 one.2) in
-      let f = ap (λ (x : KeyVersion). x.key) (one_at h q one.1 b.0 one.3 b.1) in
-      one_key_number h i j b.0.key (subst (IsKeyAt h i) (e ∙ one.4 ∙ f) a.2) b.2
+      one_key_number h i j b.0.key (subst (IsKeyAt h i) (e ∙ one.4 ∙ ap (λ (x : KeyVersion). x.key) (one_at h q one.1 b.0 one.3 b.1)) a.2) b.2
 
   -- where the positions of the keys from one number on begin
   pub begins_at : (s j q i : ℕ) → ((q : ℕ) (v : KeyVersion) (i : ℕ) → IsAtPosition h q v → IsKeyAt h i v.key → (q < s) ↔ (i < j)) → IsKeyOf h q i → (s ≤ q) ↔ (j ≤ i)
@@ -181,7 +161,7 @@ module _ (h : List Event) where
 module _ (h : List Event) (wf : IsWellFormed h) (versions : List KeyVersion) (all : AreAllVersions h versions) (keys : List ℕ) (written : AreWrittenKeys h keys) where
   its_key : (q t k : ℕ) → MadeAt h q t k → (j : ℕ) × IsKeyAt h j k × IsKeyOf h q j
   its_key q t k m =
-      let n = number_of_key h keys written k t (made_commits h wf q t k m).0 in
+      let n = has_number h keys written k t (made_commits h wf q t k m).0 in
       (n.0, n.1, (m.0, m.1, subst (IsKeyAt h n.0) (sym m.2) n.1))
 
   module _ (t u : ℕ) where
@@ -195,13 +175,12 @@ module _ (h : List Event) (wf : IsWellFormed h) (versions : List KeyVersion) (al
           let x = (source.each w.0).0 w.1 in
           let y = (target.each f.0).0 f.1 in
           let of = w.4 in
-          let e = one_at h w.0 of.0 x.0 of.1 x.1 in
           let a = w.2 in
           let key = ap (λ (v : KeyVersion). v.key) (one_at h f.0 y.0 a.1 y.1 a.3) ∙ sym a.4 ∙ ap (λ (v : KeyVersion). v.key) (one_at h w.0 a.0 of.0 a.2 of.1) in (
             of.0.key,
             of.2,
             (ww_positions h wf versions all t u of.0.key).1
-                (w.0, f.0, (x.0, x.1, ap (λ (v : KeyVersion). v.key) (sym e), x.3, x.2), (y.0, y.1, key, y.3, y.2), w.3),
+                (w.0, f.0, (x.0, x.1, ap (λ (v : KeyVersion). v.key) (sym (one_at h w.0 of.0 x.0 of.1 x.1)), x.3, x.2), (y.0, y.1, key, y.3, y.2), w.3),
           )),
       (λ k edge.
           let w = (ww_positions h wf versions all t u k).0 edge in
@@ -218,13 +197,12 @@ module _ (h : List Event) (wf : IsWellFormed h) (versions : List KeyVersion) (al
             let w = f.2 in
             let x = (source.each w.0).0 w.1 in
             let of = w.4 in
-            let e = one_at h w.0 of.0 x.0 of.1 x.1 in
             let o = w.2 in
             let key = sym o.4 ∙ ap (λ (v : KeyVersion). v.key) (one_at h w.0 o.0 of.0 o.2 of.1) in (
               of.0.key,
               of.2,
               (wr_positions h wf versions all a are t u of.0.key).1
-                  (other, w.0, f.0, (x.0, x.1, ap (λ (v : KeyVersion). v.key) (sym e), x.3, x.2), (i, (sees f.0).0 f.1, number, o.1, o.3, key), w.3),
+                  (other, w.0, f.0, (x.0, x.1, ap (λ (v : KeyVersion). v.key) (sym (one_at h w.0 of.0 x.0 of.1 x.1)), x.3, x.2), (i, (sees f.0).0 f.1, number, o.1, o.3, key), w.3),
             )),
         (λ k edge.
             let w = (wr_positions h wf versions all a are t u k).0 edge in
@@ -243,13 +221,12 @@ module _ (h : List Event) (wf : IsWellFormed h) (versions : List KeyVersion) (al
               let w = f.2 in
               let x = (target.each w.0).0 w.1 in
               let of = w.4 in
-              let e = one_at h w.0 of.0 x.0 of.1 x.1 in
               let o = w.2 in
               let key = sym o.4 ∙ ap (λ (v : KeyVersion). v.key) (one_at h w.0 o.0 of.0 o.2 of.1) in (
                 of.0.key,
                 of.2,
                 (rw_positions h wf versions all a are t u of.0.key).1
-                    (other, w.0, (x.0, x.1, ap (λ (v : KeyVersion). v.key) (sym e), x.3, x.2), inl (f.0, (i, (sees f.0).0 f.1, number, o.1, o.3, key), w.3)),
+                    (other, w.0, (x.0, x.1, ap (λ (v : KeyVersion). v.key) (sym (one_at h w.0 of.0 x.0 of.1 x.1)), x.3, x.2), inl (f.0, (i, (sees f.0).0 f.1, number, o.1, o.3, key), w.3)),
               )
           | inr f ↦
               let w = f.2 in
@@ -275,9 +252,7 @@ module _ (h : List Event) (wf : IsWellFormed h) (versions : List KeyVersion) (al
                     inl (y.0, (sees y.0).1 (subst (λ n. SawPosition a n y.0) mine s.1), (w.1, (target.each w.1).1 (m.0, m.1, m.4, m.3), (m.0, s.3, m.1, s.4, m.2 ∙ sym s.5), y.2, j.2))
                 | inr y ↦
                     let p = y.1 in
-                    let mine = one_number h y.0 i t p.txn number in
-                    let same = one_key_number h p.key.0 j.0 k p.key.1 j.1 in
-                    let miss = subst (λ n. Missed a n j.0) mine (subst (Missed a y.0) same p.key.2) in
+                    let miss = subst (λ n. Missed a n j.0) (one_number h y.0 i t p.txn number) (subst (Missed a y.0) (one_key_number h p.key.0 j.0 k p.key.1 j.1) p.key.2) in
                     inr (miss.0, (misses miss.0).1 miss.1, (w.1, (target.each w.1).1 (m.0, m.1, m.4, m.3), miss.2, miss.3, j.2))
               ],
             )),

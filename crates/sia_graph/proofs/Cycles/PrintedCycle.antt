@@ -1,6 +1,5 @@
 -- The cycle that going back from the least transaction that is left reaches, from its least member on.
-use Rattle.std.proofs.Common.{◌≡◌, ℕ, zero, suc, ◌+◌, ◌<◌, ◌≤◌, List, [], ◌∷◌, length, get_or, ap, sym, ◌∙◌, refl, subst, arith, inl, inr}
-use Rattle.std.specs.Prelude.{Contains}
+use Rattle.std.proofs.Common.{◌≡◌, ℕ, zero, suc, ◌+◌, ◌<◌, ◌≤◌, List, [], ◌∷◌, length, get_or, ap, sym, ◌∙◌, refl, subst, arith, inl, inr, Contains}
 use Rattle.std.specs.List.Sorted.{IsStrictlyIncreasing}
 use Rattle.std.proofs.lemmas.Bool.{cases_lt}
 use Rattle.sia_parts.specs.declared.finding.Edge.{Edge}
@@ -34,8 +33,7 @@ module _ (ids : List ℕ) (IsEdge : Edge → Type 0) (IsLeft : ℕ → Type 0) (
   left_at (suc n) =
       let s = (least_at n (left_at n)).0 in
       let next : n + 1 ≡ suc n = omega arith in
-      let same = sym (back_next previous n start) ∙ ap (λ m. back previous m start) next in
-      subst (λ i. (i < length ids) × IsLeft i) same (s.0, s.1)
+      subst (λ i. (i < length ids) × IsLeft i) (sym (back_next previous n start) ∙ ap (λ m. back previous m start) next) (s.0, s.1)
 
   pub previous_from : ArePreviousFrom ids IsEdge IsLeft previous start
   previous_from n = least_at n (left_at n)
@@ -56,9 +54,7 @@ module _ (ids : List ℕ) (IsEdge : Edge → Type 0) (IsLeft : ℕ → Type 0) (
       w.0.2,
       λ t c leads.
           let k = (left_ones t).0 c in
-          let e = k.2 in
-          let m = w.1 k.0 (k.1, k.3, subst (λ x. Leads IsEdge x (get_or ids i 0)) (sym e) leads) in
-          let n = ids_no_less ids up p k.0 m k.1 in
+          let n = ids_no_less ids up p k.0 (w.1 k.0 (k.1, k.3, subst (λ x. Leads IsEdge x (get_or ids i 0)) (sym k.2) leads)) k.1 in
           omega arith,
     )
 

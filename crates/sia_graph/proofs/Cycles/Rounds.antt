@@ -1,6 +1,5 @@
 -- The steps of a cycle, made from the last to the first by going back from the least transaction on it.
-use Rattle.std.proofs.Common.{◌≡◌, ◌≢◌, inl, inr, ℕ, ◌+◌, ◌<◌, ◌≤◌, List, [], ◌∷◌, ◌++◌, length, get_or, reverse, ap, sym, ◌∙◌, subst, arith}
-use Rattle.std.specs.Prelude.{All}
+use Rattle.std.proofs.Common.{◌≡◌, ◌≢◌, inl, inr, ℕ, ◌+◌, ◌<◌, ◌≤◌, List, [], ◌∷◌, ◌++◌, length, get_or, reverse, ap, sym, ◌∙◌, subst, arith, All}
 use Rattle.std.specs.List.Sorted.{IsStrictlyIncreasing}
 use Rattle.std.proofs.lemmas.Bool.{cases_lt}
 use Rattle.std.proofs.lemmas.List.{reverse-append, length_push}
@@ -80,9 +79,8 @@ module _ (ids : List ℕ) (up : IsStrictlyIncreasing ids) (IsEdge : Edge → Typ
 
   pub round_made : get_or previous at 0 ≡ home → (stuck : List ℕ) → LeadsBack stuck ids IsEdge previous home → GoesRoundFrom stuck IsEdge (get_or ids home 0) (reverse (made ++ s ∷ []))
   round_made back_home stuck leads =
-      let w = round_more stuck leads in
       let first : s.txn ≡ get_or ids home 0 = from ∙ ap (λ i. get_or ids i 0) back_home in
-      let g : GoesRound IsEdge stuck (s ∷ reverse made) (get_or ids home 0) = subst (λ l. GoesRound IsEdge stuck l (get_or ids home 0)) (reverse_push made s) w.0 in
+      let g : GoesRound IsEdge stuck (s ∷ reverse made) (get_or ids home 0) = subst (λ l. GoesRound IsEdge stuck l (get_or ids home 0)) (reverse_push made s) (round_more stuck leads).0 in
       subst (λ l. GoesRoundFrom stuck IsEdge (get_or ids home 0) l) (sym (reverse_push made s)) (
         first,
         subst (λ h. StartsAtLeast (reverse made) h) (sym first) (All-permutation (λ x. get_or ids home 0 < x.txn) made (reverse made) (IsPermutation-reverse made) part.above),

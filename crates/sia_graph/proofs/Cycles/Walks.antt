@@ -1,6 +1,6 @@
 -- The least transaction that is left and has an edge to another, by their numbers and by their places in a list.
 -- Going back along the least sources.
-use Rattle.std.proofs.Common.{◌≡◌, ◌≢◌, ◌⊎◌, inl, inr, ℕ, ◌+◌, ◌<◌, ◌≤◌, Bool, List, [], ◌∷◌, ◌++◌, length, get_or, refl, sym, subst, arith, zero, suc, ◌-◌, true, false, set, replicate, slice_get, Option, Some, None, ap, ◌∙◌}
+use Rattle.std.proofs.Common.{◌≡◌, ◌≢◌, ◌⊎◌, inl, inr, ℕ, ◌+◌, ◌<◌, ◌≤◌, Bool, List, [], ◌∷◌, ◌++◌, length, get_or, refl, sym, subst, arith, zero, suc, ◌-◌, true, false, set, replicate, slice_get, Option, Some, None, ap, ◌∙◌, count_by}
 use Rattle.std.proofs.lemmas.Bool.{cases_lt, cases_eq}
 use Rattle.std.proofs.lemmas.List.{get_or_append_left, get_or_push, length_push, get_or-set_same, get_or-set_other, length-set, length-replicate}
 use Rattle.sia_events.specs.declared.event.Event.{Event}
@@ -14,7 +14,6 @@ use Rattle.sia_graph.specs.Twos.{IsLeastNumber, IsLeftSource}
 use Rattle.sia_graph.specs.Walks.{IsLeastSource, IsSource, back, StaysWithin}
 use Rattle.sia_graph.proofs.Shared.Numbered.{txn_number}
 use Rattle.sia_parts.proofs.EdgeRows.Readings.{few_txns}
-use Rattle.std.specs.List.{count_by}
 use Rattle.std.proofs.lemmas.List.Sums.{sum_by-set}
 use Rattle.std.proofs.lemmas.Option.{same_Some, slice_get_within, slice_get-get_or, get_or_from_slice_get}
 use Rattle.sia_graph.proofs.Shared.Counted.{count_first}
@@ -27,8 +26,7 @@ module _ (h : List Event) (txns : List ℕ) (are : ListsAscending (IsCommitted h
   source_of : (r : ℕ) → IsLeftSource h left i r → IsSource txns (IsEdge h) (IsLeftIn left) i r
   source_of r (is, t, u, at, other, leads) =
       let a = txn_number h txns are r t at in
-      let b = txn_number h txns are i u other in
-      (a.0, is, subst (λ x. Leads (IsEdge h) x (get_or txns i 0)) (sym a.1) (subst (λ x. Leads (IsEdge h) t x) (sym b.1) leads))
+      (a.0, is, subst (λ x. Leads (IsEdge h) x (get_or txns i 0)) (sym a.1) (subst (λ x. Leads (IsEdge h) t x) (sym (txn_number h txns are i u other).1) leads))
 
   of_source : (r : ℕ) → IsSource txns (IsEdge h) (IsLeftIn left) i r → IsLeftSource h left i r
   of_source r (within, is, leads) = (is, get_or txns r 0, get_or txns i 0, (txns, are, within, refl), (txns, are, inside, refl), leads)
@@ -40,9 +38,7 @@ module _ (h : List Event) (txns : List ℕ) (are : ListsAscending (IsCommitted h
   -- what the least number says of it
   pub previous_is : IsWellFormed h → (r p : ℕ) → (r ≡ 4294967295 → p ≡ i) → (r ≢ 4294967295 → p ≡ r) → IsLeastNumber (IsLeftSource h left i) r → IsPrevious h left i p
   previous_is wf r p none some (inl has) =
-      let few = few_txns h wf txns are in
-      let below = (source_of r has.0).0 in
-      let e = some (λ e. omega arith) in
+      let e = some (λ e. omega (arith, few_txns h wf txns are, (source_of r has.0).0)) in
       inl (subst (λ n. IsLeftSource h left i n × ((q : ℕ) → IsLeftSource h left i q → n ≤ q)) (sym e) has)
   previous_is wf r p none some (inr lacks) = inr (none lacks.0, lacks.1)
 
@@ -145,9 +141,7 @@ none_noted previous start n l long = record {
     all_unseen : (n : ℕ) → count_by is_unseen (replicate n None) ≡ n
     all_unseen zero = refl
     all_unseen (suc n) =
-        let e = count_first is_unseen None (replicate n None) refl in
-        let r = all_unseen n in
-        omega arith
+        omega (arith, count_first is_unseen None (replicate n None) refl, all_unseen n)
 
 -- the least position so far
 pub least_more : (previous : List ℕ) (start step at least next : ℕ) → at ≡ back previous step start → next ≡ get_or previous at 0

@@ -63,14 +63,13 @@ module _ (h : List Event) (wf : IsWellFormed h) (kept : IsolationKept h) where
         let last = start_of edges m there in
         let one = before_it edges last.0 last.1 last.2 in
         let other = before_it edges one.0 one.1 one.2.1 in
-        let home : one.1.dst ≡ m = round.round one.0 one.1 last.1 one.2 ∙ last.3 in
         let middle : other.1.dst ≡ one.1.src = round.round other.0 other.1 one.1 other.2 in
         let one_leads = leads_at one.0 one.1 one.2.1 in
         let other_leads = leads_at other.0 other.1 other.2.1 in
         let t2 = lifetime_of h wf one.1.src one_leads.0 in
         let t1 = lifetime_of h wf other.1.src other_leads.0 in
         let t3 = lifetime_of h wf one.1.dst one_leads.1 in
-        let same : t3.commit ≡ c = one_commit h wf m t3.commit c (subst (λ t. CommitsAt h t t3.commit) home t3.commits) commits in
+        let same : t3.commit ≡ c = one_commit h wf m t3.commit c (subst (λ t. CommitsAt h t t3.commit) (round.round one.0 one.1 last.1 one.2 ∙ last.3) t3.commits) commits in
         let later2 : c ≤ t2.commit = least one.1.src t2.commit (start_there edges one.0 one.1 one.2.1) t2.commits in
         let later1 : c ≤ t1.commit = least other.1.src t1.commit (start_there edges other.0 other.1 other.2.1) t1.commits in
         let one_is : IsRwOverlap h one.1 = elim (one_leads.2) [

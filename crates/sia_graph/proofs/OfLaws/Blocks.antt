@@ -1,6 +1,5 @@
 -- Nodes with blocks among them settle what the members settle.
-use Rattle.std.proofs.Common.{◌≡◌, ◌⊎◌, inl, inr, ℕ, zero, suc, ◌<◌, ◌≤◌, Bool, true, List, [], ◌∷◌, ◌++◌, refl, subst, arith}
-use Rattle.std.specs.Prelude.{Contains, not, nat_lt}
+use Rattle.std.proofs.Common.{◌≡◌, ◌⊎◌, inl, inr, ℕ, zero, suc, ◌<◌, ◌≤◌, Bool, true, List, [], ◌∷◌, ◌++◌, refl, subst, arith, Contains, not, nat_lt}
 use Rattle.std.proofs.lemmas.Bool.{cases_lt, le-ltb, ltb-false, not-true, not_from_false}
 use Rattle.sia_events.specs.Lists.{Precedes}
 use Rattle.sia_parts.specs.declared.finding.Edge.{Edge}
@@ -112,9 +111,7 @@ module _ (floor : ℕ) where
       -- an order of the members has r
       no_prefix : ¬ IsOrderBy (IsMemberOf floor Node) (LeadsThrough floor Step) (without_blocks floor front)
       no_prefix o =
-          let node = in_node r (in_right r front (r ∷ rest) (inl refl)) in
-          let w = members_in front r ((o.0.each r).1 (node, above)) in
-          apart.2 r (contains_in front r w.0) (inl refl)
+          apart.2 r (contains_in front r (members_in front r ((o.0.each r).1 (in_node r (in_right r front (r ∷ rest) (inl refl)), above))).0) (inl refl)
 
       module _ (m : ℕ) (more : List ℕ) (less : m < r) (o : IsOrderBy (IsMemberOf floor Node) (LeadsThrough floor Step) (without_blocks floor front ++ m ∷ more)) where
         apart_members : IsOnce (without_blocks floor front) × IsOnce (m ∷ more) × ((t : ℕ) → In t (without_blocks floor front) → ¬ In t (m ∷ more))
@@ -202,11 +199,8 @@ module _ (floor : ℕ) where
           )
 
           moved_before : Precedes (front ++ (ys ++ r ∷ zs)) (front ++ r ∷ rest)
-          moved_before = precedes_after front (ys ++ r ∷ zs) (r ∷ rest) (starts ys p.left m_in)
+          moved_before = precedes_after front (ys ++ r ∷ zs) (r ∷ rest) (starts ys p.left (elim (p.parts m m_later) [ inl i ↦ i | inr j ↦ absurd (p.right m j (inl refl)) ]))
             where
-              m_in : In m ys
-              m_in = elim (p.parts m m_later) [ inl i ↦ i | inr j ↦ absurd (p.right m j (inl refl)) ]
-
               lower : (y : ℕ) → GoesAlong y → y < r
               lower y (inl e) = let same : y ≡ m = e in omega arith
               lower y (inr w) = let l = w.0 in omega arith

@@ -16,9 +16,6 @@ module _ (h : List Event) (wf : IsWellFormed h) where
   seen_edge : (t u : ℕ) → IsCommitted h t → u ≢ t → IsAfterSeen h t u → HasRwEdge h t u
   seen_edge t u committed other seen = grind arith
 
-  edge_seen : (t u : ℕ) → HasRwEdge h t u → IsAfterSeen h t u
-  edge_seen t u e = (e.0, e.1.3, e.1.4, e.1.5, e.1.6, e.1.7, e.1.8)
-
   module _ (kept : IsolationKept h) where
     -- a reader of an earlier version starts before the writer commits
     starts_before : (t u : ℕ) (a : Lifetime h t) (b : Lifetime h u) → HasRwEdge h t u → a.start < b.commit
@@ -37,20 +34,18 @@ module _ (h : List Event) (wf : IsWellFormed h) where
         let out = lifetime_of h wf out_to edge.1.2.1 in
         let first = lifetime_of h wf in_from into.1.1 in
         let starts : mid.start < out.commit = starts_before t out_to mid out edge in
-        let enters : first.start < mid.commit = starts_before in_from t first mid into in
         let last : out.commit ≤ first.commit = elim or [
           | inl same ↦ let e : out.commit ≡ first.commit = one_commit h wf in_from out.commit first.commit (subst (λ x. CommitsAt h x out.commit) same out.commits) first.commits in omega arith
           | inr later ↦ let l = commits_lt h wf out_to in_from out.commit first.commit out.commits first.commits later in omega arith
         ] in
-        (overlap in_from t first mid enters (omega arith), into.0, into.1)
+        (overlap in_from t first mid (starts_before in_from t first mid into) (omega arith), into.0, into.1)
 
     first_by_commits : (t out_to : ℕ) → IsFirstByCommits h t out_to → IsFirst h t out_to
     first_by_commits t out_to f =
         let mid = lifetime_of h wf t f.0.1.1 in
         let out = lifetime_of h wf out_to f.0.1.2.1 in
         let before = commits_lt h wf out_to t out.commit mid.commit out.commits mid.commits f.1 in
-        let starts : mid.start < out.commit = starts_before t out_to mid out f.0 in
-        ((overlap t out_to mid out starts (omega arith), f.0.0, f.0.1), f.1, f.2.0, entered_from t out_to f.0 f.1 f.2.0 f.2.1 f.2.2, f.2.2)
+        ((overlap t out_to mid out (starts_before t out_to mid out f.0) (omega arith), f.0.0, f.0.1), f.1, f.2.0, entered_from t out_to f.0 f.1 f.2.0 f.2.1 f.2.2, f.2.2)
 
 pub firsts_hold : (h : List Event) → IsWellFormed h → FirstsLaw h
 firsts_hold h wf = record {
@@ -62,7 +57,7 @@ firsts_hold h wf = record {
           let edge = seen_edge h wf t u (f.1.1, f.1.3) (grind (arith, commits_lt, one_commit)) f.0 in
           p.1 t u (first_by_commits h wf p.0 t u (edge, f.1, f.2)),
     ),
-    λ p. (p.0, λ t u f. let g = to t u f in p.1 t u (edge_seen h wf t u g.0, g.1, g.2)),
+    λ p. (p.0, λ t u f. let g = to t u f in p.1 t u ((g.0.0, g.0.1.3, g.0.1.4, g.0.1.5, g.0.1.6, g.0.1.7, g.0.1.8), g.1, g.2)),
   );
 }
   where

@@ -23,19 +23,15 @@ use Rattle.sia_graph.specs.Listings.{ListingLaw}
 use Rattle.sia_graph.proofs.Shared.Deciding.{three_decided, either_decided, event_decided}
 use Rattle.sia_graph.proofs.Shared.EdgesDecided.{edge_decided}
 use Rattle.sia_graph.proofs.Shared.Facts.{commits_before_decided}
-use Rattle.sia_graph.proofs.OfLaws.FiniteLists.{contains_flat, list_of}
-use Rattle.sia_graph.proofs.OfPivots.ListedAs.{mapped}
+use Rattle.sia_graph.proofs.OfLaws.FiniteLists.{contains_flat, list_of, list_of_txns}
+pub use Rattle.sia_graph.proofs.OfLaws.FiniteLists.{event_in}
 use Rattle.sia_graph.proofs.Shared.NoStuckSet.{vulnerable_decided}
 use Rattle.sia_graph.proofs.OfLaws.OneVerdict.{same_kind}
-use Rattle.sia_graph.proofs.Shared.Positions.{stands_contains}
 use Rattle.sia_graph.proofs.OfPivots.Vulnerable.{target_committed, source_committed}
 
 -- its rank tells an edge
 edge_told : (x y : Edge) → edge_rank x ≡ edge_rank y → x ≡ y
 edge_told x y e = grind (arith, same_kind)
-
-pub event_in : (h : List Event) (p : ℕ) (e : Event) → at_place h p ≡ Some e → Contains h e
-event_in h p e q = grind (arith, stands_contains)
 
 -- the edges that there may be by a write, and an event of the other transaction
 abbrev edges_by : Event → Event → List Edge
@@ -54,11 +50,8 @@ module _ (h : List Event) where
   may_be_edge Wr t u k e = by_two e.1.0.0 e.2.0 (Write t k) (Commit u) (record { src = t; kind = Wr; dst = u; key = k }) e.1.0.1 e.2.1 (1, omega arith, refl)
   may_be_edge Rw t u k e = by_two e.2.0.0 e.1.0 (Write u k) (Commit t) (record { src = t; kind = Rw; dst = u; key = k }) e.2.0.1 e.1.1 (2, omega arith, refl)
 
-  -- the list of the committed transactions that have P
+  -- some committed transaction has P, or none has
   module _ (P : ℕ → Type 0) (decide : (t : ℕ) → Decided (P t)) (committed : (t : ℕ) → P t → IsCommitted h t) where
-    list_of_txns : (ts : List ℕ) × ListsAscending P ts
-    list_of_txns = list_of (λ t. t ∷ []) (λ x y e. cc) P decide (map actor h) (λ t p. let c = committed t p in (mapped actor h t).1 (Commit t, event_in h c.0 (Commit t) c.1, refl))
-
     some_txn : Decided ((t : ℕ) × P t)
     some_txn =
         decided_alike ((p : ℕ) × (e : Event) × (at_place h p ≡ Some e) × P (actor e)) ((t : ℕ) × P t)

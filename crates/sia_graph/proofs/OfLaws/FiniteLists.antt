@@ -1,14 +1,20 @@
 -- Where it can be told of each of finitely many things whether it has a property, a list holds those that have it, in order.
-use Rattle.std.proofs.Common.{◌≡◌, ◌⊎◌, inl, inr, ℕ, suc, List, [], ◌∷◌, get_or, flat_map, sym, subst, ◌∙◌, arith}
-use Rattle.std.specs.Prelude.{All, AllPairs, Contains}
+use Rattle.std.proofs.Common.{◌≡◌, ◌⊎◌, inl, inr, ℕ, suc, List, [], ◌∷◌, get_or, flat_map, sym, subst, ◌∙◌, arith, All, AllPairs, Contains, Some, map, refl}
 use Rattle.std.proofs.lemmas.List.Concat.{flat_map-cons}
 use Rattle.std.proofs.lemmas.List.Elements.{All-nil, All-cons, Contains-get_or, Contains-append_left, Contains-append_right}
 use Rattle.std.proofs.lemmas.List.Kept.{AllPairs-cons}
-use Rattle.sia_events.specs.Lists.{Precedes, ListsBy}
+use Rattle.sia_events.specs.Lists.{Precedes, ListsBy, ListsAscending}
 use Rattle.sia_events.proofs.Shared.Decisions.{Decided}
 use Rattle.sia_events.proofs.Worked.OneList.{Precedes-total}
 use Rattle.sia_parts.proofs.Auditing.Members.{first_or_later, contains_first, contains_later, contains_none, first_before, later_pairs}
 use Rattle.sia_graph.proofs.OfLaws.InOrder.{precedes_trans}
+use Rattle.sia_events.specs.declared.event.Event.{Event}
+use Rattle.sia_events.specs.declared.event.Event.TheVariants.{Commit}
+use Rattle.sia_events.specs.Places.{at_place}
+use Rattle.sia_events.specs.Events.{actor}
+use Rattle.sia_events.specs.Transactions.{IsCommitted}
+use Rattle.sia_parts.proofs.EdgeRows.Readings.{mapped}
+use Rattle.sia_graph.proofs.Shared.Positions.{stands_contains}
 
 -- what is made of a thing of a list is in the joined lists
 pub contains_flat : {A B : Type 0} (f : A → List B) (xs : List A) (x : A) (y : B) → Contains xs x → Contains (f x) y → Contains (flat_map f xs) y
@@ -73,3 +79,10 @@ module _ {A : Type 0} (rank : A → List ℕ) (tells : (x y : A) → rank x ≡ 
     -- the list of what has P, where all that has it is among these
     pub list_of : (xs : List A) → ((x : A) → P x → Contains xs x) → (ys : List A) × ListsBy rank P ys
     list_of xs all = let ys = among xs in (ys.0, record { ascending = ys.1; each = λ y. (ys.2 y, λ p. ys.3 y (all y p) p) })
+
+pub event_in : (h : List Event) (p : ℕ) (e : Event) → at_place h p ≡ Some e → Contains h e
+event_in h p e q = grind (arith, stands_contains)
+
+-- the list of the committed transactions that have P
+pub list_of_txns : (h : List Event) (P : ℕ → Type 0) → ((t : ℕ) → Decided (P t)) → ((t : ℕ) → P t → IsCommitted h t) → (ts : List ℕ) × ListsAscending P ts
+list_of_txns h P decide committed = list_of (λ t. t ∷ []) (λ x y e. cc) P decide (map actor h) (λ t p. let c = committed t p in (mapped actor h t).1 (Commit t, event_in h c.0 (Commit t) c.1, refl))

@@ -2,16 +2,17 @@
 -- the transactions before it in the order. A replay said by the order's places, with no list of events.
 use Rattle.std.proofs.Common.{◌≡◌, ◌⊎◌, inl, inr, ℕ, zero, suc, ◌+◌, ◌<◌, List, [], ◌∷◌, ◌++◌, take, flat_map, slice_get, Option, Some, None, refl, ap, sym, subst, ◌∙◌, arith, append-nil}
 use Rattle.std.proofs.lemmas.Bool.{cases_lt}
-use Rattle.std.proofs.lemmas.Option.{same_Some}
+use Rattle.std.proofs.lemmas.Option.{same_Some, slice_get_within, get_or_from_slice_get}
 use Rattle.std.proofs.lemmas.List.Concat.{flat_map-append}
 use Rattle.sia_events.specs.declared.event.Event.{Event}
-use Rattle.sia_events.specs.declared.event.Event.TheVariants.{Begin, Read, Range, Write, Commit, Abort}
+use Rattle.sia_events.specs.declared.event.Event.TheVariants.{Write}
 use Rattle.sia_events.specs.Places.{at_place}
 use Rattle.sia_events.specs.Events.{actor, Saw}
 use Rattle.sia_events.specs.Transactions.{Wrote, WroteBefore}
 use Rattle.sia_events.specs.Replay.{events_of, serial, found_at, MayFollow, IsRightAt, Replays}
 use Rattle.sia_graph.proofs.Shared.LastWriter.{last_from, last_from-append, found_is_last, events_from, Writes, IsLastOwn, last_own}
 use Rattle.sia_graph.proofs.OfLaws.Serial.{split_place, joined_place, split_event, own_event}
+use Rattle.std.proofs.Math.Seq.{take-suc}
 
 -- f is the last writer of k among the first j of the order, or 0 where none is
 abbrev pub IsLastWriter : List Event → List ℕ → ℕ → ℕ → ℕ → Type 0
@@ -27,21 +28,14 @@ abbrev pub IsRight : List Event → ℕ → Event → ℕ → Type 0
 IsRight h f (Write t key) k = k ≡ key → MayFollow h k f t
 IsRight h f e k = (v : ℕ) → Saw e k v → v ≡ f
 
-right_from : (h : List Event) (events : List (ℕ × Event)) (i : ℕ) (e : Event) (k f : ℕ) → found_at events i k ≡ f → IsRightAt h events i e k → IsRight h f e k
-right_from h events i (Write t key) k f same r = λ e. subst (λ x. MayFollow h k x t) same (r e)
-right_from h events i (Begin t start) k f same r = λ v s. r v s ∙ same
-right_from h events i (Read t key saw) k f same r = λ v s. r v s ∙ same
-right_from h events i (Range t lo hi listed) k f same r = λ v s. r v s ∙ same
-right_from h events i (Commit t) k f same r = λ v s. r v s ∙ same
-right_from h events i (Abort t) k f same r = λ v s. r v s ∙ same
+right_from : (h : List Event) (events : List (ℕ × Event)) (i : ℕ) (e : Event) (k : ℕ) → IsRightAt h events i e k → IsRight h (found_at events i k) e k
+right_from h events i e k p = grind arith
 
 right_to : (h : List Event) (events : List (ℕ × Event)) (i : ℕ) (e : Event) (k : ℕ) → IsRight h (found_at events i k) e k → IsRightAt h events i e k
 right_to h events i e k p = grind arith
 
 take_next : (xs : List ℕ) (j t : ℕ) → slice_get xs j ≡ Some t → take (suc j) xs ≡ take j xs ++ t ∷ []
-take_next [] j t e = cc
-take_next (x ∷ xs) zero t e = ap (λ y. y ∷ []) (same_Some x t e)
-take_next (x ∷ xs) (suc j) t e = ap (λ l. x ∷ l) (take_next xs j t e)
+take_next xs j t e = take-suc xs j t (slice_get_within xs j t e) ∙ ap (λ x. take j xs ++ x ∷ []) (get_or_from_slice_get xs j t t e)
 
 take_past : (xs : List ℕ) (j : ℕ) → slice_get xs j ≡ None → take (suc j) xs ≡ take j xs
 take_past [] zero e = refl
@@ -62,9 +56,6 @@ taken_slice (f ∷ h) (suc i) zero e l at = at
 taken_slice (f ∷ h) (suc i) (suc j) e l at = taken_slice h i j e (omega arith) at
 
 module _ (h : List Event) where
-  writes_before : (t k i : ℕ) → Writes (take i h) t k → WroteBefore h t k (suc i)
-  writes_before t k i w = let s = slice_taken h i w.0 (Write t k) w.1 in let l = s.0 in (suc w.0, omega arith, s.1)
-
   before_writes : (t k i q : ℕ) → q < suc i → at_place h q ≡ Some (Write t k) → Writes (take i h) t k
   before_writes t k i zero l at = cc
   before_writes t k i (suc j) l at = (j, taken_slice h i j (Write t k) (omega arith) at)
@@ -132,7 +123,7 @@ module _ (h : List Event) where
         by_own : found_at (serial h order) n k ≡ last_from k (writer_before order k j) (events_from 1 (take i h) t)
             → IsLastOwn (take i h) t k (writer_before order k j) (last_from k (writer_before order k j) (events_from 1 (take i h) t))
             → IsFound h order j t (suc i) k (found_at (serial h order) n k)
-        by_own is (inl own) = inl (writes_before t k i own.0, is ∙ own.1)
+        by_own is (inl own) = inl (let s = slice_taken h i own.0.0 (Write t k) own.0.1 in let l = s.0 in (suc own.0.0, omega arith, s.1), is ∙ own.1)
         by_own is (inr other) = inr (λ w. other.0 (before_writes t k i w.0 w.1 w.2), subst (λ x. IsLastWriter h order j k x) (sym (is ∙ other.1)) (last_writer j))
 
   -- in a replay each event is right with what it finds
@@ -145,7 +136,7 @@ module _ (h : List Event) where
       let n = joined.0 in (
         found_at (serial h order) n k,
         found_there order k j t i n (joined.2 ∙ ap (λ l. flat_map (events_of h) (take j order) ++ l) own.2),
-        right_from h (serial h order) n e k (found_at (serial h order) n k) refl (replays (suc n) n (1 + i) e k (omega arith) joined.1),
+        right_from h (serial h order) n e k (replays (suc n) n (1 + i) e k (omega arith) joined.1),
       )
 
   pub right_replay : (order : List ℕ) → ((j t p : ℕ) (e : Event) (k f : ℕ) → slice_get order j ≡ Some t → at_place h p ≡ Some e → actor e ≡ t → IsFound h order j t p k f → IsRight h f e k)

@@ -1,8 +1,6 @@
 -- Members and edges have one verdict.
-use Rattle.std.proofs.Common.{◌≡◌, ◌⊎◌, inl, inr, ℕ, zero, suc, ◌<◌, ◌≤◌, List, [], ◌∷◌, ◌++◌, refl, ap, sym, subst, ◌∙◌, arith, append_assoc}
-use Rattle.std.specs.Prelude.{Contains}
+use Rattle.std.proofs.Common.{◌≡◌, ◌⊎◌, inl, inr, ℕ, zero, suc, ◌<◌, ◌≤◌, List, [], ◌∷◌, ◌++◌, refl, ap, sym, subst, ◌∙◌, arith, append_assoc, Contains, append-nil}
 use Rattle.std.proofs.lemmas.Bool.{cases_lt}
-use Rattle.std.proofs.lemmas.List.{append-nil}
 use Rattle.sia_events.specs.Lists.{Precedes}
 use Rattle.sia_events.proofs.Worked.OneList.{Precedes-total}
 use Rattle.sia_parts.specs.declared.finding.Edge.{Edge}
@@ -12,16 +10,12 @@ use Rattle.sia_parts.specs.Entries.{kind_number}
 use Rattle.sia_graph.specs.declared.cycle.Step.{Step}
 use Rattle.sia_graph.specs.declared.judgement.Verdict.{Verdict}
 use Rattle.sia_graph.specs.declared.judgement.Verdict.TheVariants.{Order, Cycle}
-use Rattle.sia_graph.specs.Orders.{IsLeastOrder}
 use Rattle.sia_graph.specs.Cycles.{IsPrevious, GoesBack, GoesRound, TakesLeastEdge, StartsAtLeast, IsPrintedCycle}
 use Rattle.sia_graph.specs.Verdicts.{IsVerdict}
 
 -- neither of two lists is before the other only if they are one
 neither_before : (xs ys : List ℕ) → ¬ Precedes xs ys → ¬ Precedes ys xs → xs ≡ ys
 neither_before xs ys p q = elim (Precedes-total xs ys) [ inl e ↦ e | inr (inl a) ↦ absurd (p a) | inr (inr b) ↦ absurd (q b) ]
-
-pub one_least_order : (M : ℕ → Type 0) (E : Edge → Type 0) (xs ys : List ℕ) → IsLeastOrder M E xs → IsLeastOrder M E ys → xs ≡ ys
-one_least_order M E xs ys a b = neither_before xs ys (b.1 xs a.0) (a.1 ys b.0)
 
 abbrev kind_of : ℕ → Kind
 kind_of zero = Ww
@@ -93,9 +87,8 @@ module _ (E : Edge → Type 0) (S : List ℕ) where
       let way = goes_on_back n m least s.txn r.txn x y le in
       let there : In r.txn (s ∷ ss) = stays_in s ss g way.0 s.txn r.txn (inl refl) way.1 in
       let again = reaches_first s ss s.txn r.txn g there in
-      let here : In s.txn (r ∷ rs) = stays_in r rs h again.0 r.txn s.txn (inl refl) again.1 in
       let p : s.txn ≤ r.txn = in_at_least s ss a r.txn there in
-      let q : r.txn ≤ s.txn = in_at_least r rs b s.txn here in
+      let q : r.txn ≤ s.txn = in_at_least r rs b s.txn (stays_in r rs h again.0 r.txn s.txn (inl refl) again.1) in
       omega arith
 
   -- the last step of a round, and the round before it
@@ -130,24 +123,19 @@ module _ (E : Edge → Type 0) (S : List ℕ) where
   same_back c home (x ∷ xs) [] g h a b = absurd b
   same_back c home (x ∷ []) (y ∷ []) g h a b = grind (arith, round_last, one_previous, one_step)
   same_back c home (x ∷ []) (y ∷ z ∷ ys) g h a b =
-      let p = round_last E S [] x home g in
-      let q = round_last E S (forwards (z ∷ ys)) y home h in
-      let e = one_previous E S x.txn y.txn home p.0 q.0 in
+      let e = one_previous E S x.txn y.txn home (round_last E S [] x home g).0 (round_last E S (forwards (z ∷ ys)) y home h).0 in
       let l : c < y.txn = b.0 in
       let m : x.txn ≡ c = a in
       absurd (omega arith)
   same_back c home (x ∷ w ∷ xs) (y ∷ []) g h a b =
-      let p = round_last E S (forwards (w ∷ xs)) x home g in
-      let q = round_last E S [] y home h in
-      let e = one_previous E S x.txn y.txn home p.0 q.0 in
+      let e = one_previous E S x.txn y.txn home (round_last E S (forwards (w ∷ xs)) x home g).0 (round_last E S [] y home h).0 in
       absurd (omega arith)
   same_back c home (x ∷ w ∷ xs) (y ∷ z ∷ ys) g h a b =
       let p = round_last E S (forwards (w ∷ xs)) x home g in
       let q = round_last E S (forwards (z ∷ ys)) y home h in
       let e = one_previous E S x.txn y.txn home p.0 q.0 in
-      let s = one_step E S x y home e p.1 q.1 in
       let rest = same_back c x.txn (w ∷ xs) (z ∷ ys) p.2 (subst (λ t. GoesRound E S (forwards (z ∷ ys)) t) (sym e) q.2) a.1 b.1 in
-      λ i. s i ∷ rest i
+      λ i. (one_step E S x y home e p.1 q.1) i ∷ rest i
 
   -- two rounds from one home that is the least on each are one
   same_round : (s r : Step) (ss rs : List Step) → s.txn ≡ r.txn → GoesRound E S (s ∷ ss) s.txn → GoesRound E S (r ∷ rs) r.txn → StartsAtLeast ss s.txn → StartsAtLeast rs r.txn → ◌≡◌ {A = List Step} (s ∷ ss) (r ∷ rs)
@@ -190,7 +178,7 @@ one_cycle M E (s ∷ ss) (r ∷ rs) a b =
 
 -- there is one verdict
 pub one_verdict : (M : ℕ → Type 0) (E : Edge → Type 0) (v w : Verdict) → IsVerdict M E v → IsVerdict M E w → v ≡ w
-one_verdict M E (Order xs) (Order ys) a b = ap Order (one_least_order M E xs ys a b)
+one_verdict M E (Order xs) (Order ys) a b = ap Order (neither_before xs ys (b.1 xs a.0) (a.1 ys b.0))
 one_verdict M E (Order xs) (Cycle ys) a b = absurd (b.0 xs a.0)
 one_verdict M E (Cycle xs) (Order ys) a b = absurd (a.0 ys b.0)
 one_verdict M E (Cycle xs) (Cycle ys) a b = ap Cycle (one_cycle M E xs ys a.1 b.1)

@@ -63,16 +63,13 @@ module _ (h : List Event) (wf : IsWellFormed h) (order : List ℕ) (is_order : I
     read_place j t p k v at saw other c =
         let wrote : Wrote h v k = wrote_from v k p (seen_written p t k v saw (λ e. let l = committed_positive h wf v c in omega arith)) in
         let place = place_of v c in
-        let edge : HasEdge h v t = (k, inr (inl (other, (wrote, c), committed_at t j at, p, v, saw, c, other, inl refl))) in
-        (place.0, in_turn v t place.0 j (kept v t edge) place.1 at, place.1, wrote)
+        (place.0, in_turn v t place.0 j (kept v t (k, inr (inl (other, (wrote, c), committed_at t j at, p, v, saw, c, other, inl refl)))) place.1 at, place.1, wrote)
 
     -- no writer before the reader has a later version than the one that it saw
     no_later : (j t p k v f m : ℕ) → slice_get order j ≡ Some t → SawAt h p t k v → v ≢ t → (v ≡ 0) ⊎ IsCommitted h v → m < j → slice_get order m ≡ Some f → Wrote h f k → ¬ IsVersionBefore h k v f
     no_later j t p k v f m at saw other known less there wrote later =
-        let apart : t ≢ f = λ e. let q = one_place j m t f e at there in omega arith in
-        let edge : HasEdge h t f = (k, inr (inr (apart, committed_at t j at, (wrote, committed_at f m there), p, v, saw, known, other, later))) in
-        let l = in_turn t f j m (kept t f edge) at there in
-        omega arith
+        let edge : HasEdge h t f = (k, inr (inr (λ e. let q = one_place j m t f e at there in omega arith, committed_at t j at, (wrote, committed_at f m there), p, v, saw, known, other, later))) in
+        omega (arith, in_turn t f j m (kept t f edge) at there)
 
     read_right : (j t p k v f : ℕ) → slice_get order j ≡ Some t → SawAt h p t k v → v ≢ t → (v ≡ 0) ⊎ IsCommitted h v → IsLastWriter h order j k f → v ≡ f
     read_right j t p k v f at saw other (inl unwritten) (inl none) = unwritten ∙ sym none.1
@@ -95,8 +92,7 @@ module _ (h : List Event) (wf : IsWellFormed h) (order : List ℕ) (is_order : I
       | inr other ↦ absurd (explained p t k v (committed_at t j at, saw, inl (own.0, other)))
     ]
     saw_right j t p k v f at saw (inr before) =
-        let positive = committed_positive h wf t (committed_at t j at) in
-        let other : v ≢ t = λ e. before.0 (subst (λ x. WroteBefore h x k p) e (seen_written p t k v saw (λ z. omega arith))) in
+        let other : v ≢ t = λ e. before.0 (subst (λ x. WroteBefore h x k p) e (seen_written p t k v saw (λ z. omega (arith, committed_positive h wf t (committed_at t j at))))) in
         elim (cases_eq v 0) [
           | inl unwritten ↦ read_right j t p k v f at saw other (inl unwritten) before.1
           | inr some_version ↦ elim (committed_or_not h v) [
@@ -195,8 +191,7 @@ module _ (h : List Event) (wf : IsWellFormed h) (order : List ℕ) (is_order : I
         let b = place_of u (before.1, before.3) in
         elim (cases_order a.0 b.0) [
           | inl same ↦
-              let one : t ≡ u = same_Some t u (sym a.1 ∙ ap (slice_get order) same ∙ b.1) in
-              absurd (commits_not_before_itself h wf u (subst (λ x. CommitsBefore h x u) one before))
+              absurd (commits_not_before_itself h wf u (subst (λ x. CommitsBefore h x u) (same_Some t u (sym a.1 ∙ ap (slice_get order) same ∙ b.1)) before))
           | inr (inl less) ↦ (a.0, b.0, less, a.1, b.1)
           | inr (inr more) ↦
               let after = commit_in_turn (suc a.0) k u t b.0 a.0 (omega arith) b.1 a.1 e.1 e.0 more in
@@ -215,8 +210,7 @@ module _ (h : List Event) (wf : IsWellFormed h) (order : List ℕ) (is_order : I
         by_found j at (inr (before, inr w)) (inr (inl first)) = absurd (let l = committed_positive h wf t e.1.1 in let z = first.0 in omega arith)
         by_found j at (inr (before, inr w)) (inr (inr both)) =
             let a = place_of t e.1.1 in
-            let l = in_turn t e.4 a.0 w.0 (ww_kept k t e.4 both) a.1 w.2 in
-            (a.0, j, omega arith, a.1, at)
+            (a.0, j, omega (arith, in_turn t e.4 a.0 w.0 (ww_kept k t e.4 both) a.1 w.2), a.1, at)
 
     rw_kept : (k t u : ℕ) → RwEdge h t u k → StandsBefore order t u
     rw_kept k t u e =

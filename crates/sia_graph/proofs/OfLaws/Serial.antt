@@ -1,6 +1,5 @@
 -- Where an event stands in the serial history of an order, and what stands before it there.
-use Rattle.std.proofs.Common.{◌≡◌, ◌⊎◌, inl, inr, ℕ, zero, suc, ◌+◌, Bool, true, false, cond, List, [], ◌∷◌, ◌++◌, take, flat_map, slice_get, Some, refl, ap, sym, subst, ◌∙◌, arith, ◌==◌, append_assoc}
-use Rattle.std.proofs.lemmas.Bool.{eqb-true, eq-eqb}
+use Rattle.std.proofs.Common.{◌≡◌, ◌⊎◌, inl, inr, ℕ, zero, suc, ◌+◌, Bool, true, false, cond, List, [], ◌∷◌, ◌++◌, take, flat_map, slice_get, Some, refl, ap, sym, subst, ◌∙◌, arith, ◌==◌, append_assoc, eqb-true, eq-eqb}
 use Rattle.std.proofs.lemmas.Option.{same_Some, some_pair_parts}
 use Rattle.sia_events.specs.declared.event.Event.{Event}
 use Rattle.sia_events.specs.Events.{actor}

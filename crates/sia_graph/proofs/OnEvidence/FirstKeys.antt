@@ -1,6 +1,5 @@
 -- The keys of which a transaction made the first version, by the positions of its versions.
-use Rattle.std.proofs.Common.{◌≡◌, inr, ℕ, ◌<◌, List, [], sym, subst}
-use Rattle.std.specs.Prelude.{◌↔◌, Contains}
+use Rattle.std.proofs.Common.{◌≡◌, inr, ℕ, ◌<◌, List, [], sym, subst, ◌↔◌, Contains}
 use Rattle.sia_events.specs.declared.event.Event.{Event}
 use Rattle.sia_events.specs.Lists.{ListsAscending}
 use Rattle.sia_index.specs.declared.info.KeyVersion.{KeyVersion}

@@ -1,14 +1,13 @@
 -- Range misses in order, joined one after another: what was reached before is passed over once.
-use Rattle.std.proofs.Common.{◌≡◌, ◌⊎◌, inl, inr, ℕ, ◌+◌, ◌<◌, ◌≤◌, List, length, get_or, take, sym, subst, ◌∙◌, ap, arith}
-use Rattle.std.specs.Prelude.{◌↔◌, Contains}
+use Rattle.std.proofs.Common.{◌≡◌, ◌⊎◌, inl, inr, ℕ, ◌+◌, ◌<◌, ◌≤◌, List, length, get_or, take, sym, subst, ◌∙◌, ap, arith, ◌↔◌, Contains, refl}
 use Rattle.std.specs.List.Sorted.{IsNonDecreasingBy}
 use Rattle.std.proofs.lemmas.Bool.{cases_lt}
-use Rattle.std.proofs.lemmas.List.{get_or-take, get_or_default, length-take, take_more, take_all}
-use Rattle.std.proofs.lemmas.List.Elements.{Contains-push, Contains-append_left}
+use Rattle.std.proofs.lemmas.List.{get_or-take, get_or_default, length-take, take_all}
 use Rattle.sia_parts.specs.declared.accesses.RangeMiss.{RangeMiss}
 use Rattle.sia_parts.specs.Sights.{Adds, FromSome}
 use Rattle.sia_parts.proofs.Shared.Adding.{FromFirst, adds_both, adds_nothing, adds_same, first_more}
 use Rattle.sia_graph.specs.Passed.{IsHeldBy}
+use Rattle.sia_graph.proofs.Shared.Positions.{first_cases}
 
 abbrev pub Holds : RangeMiss → ℕ → Type 0
 Holds s j = (s.from ≤ j) × (j < s.to)
@@ -76,9 +75,9 @@ module _ (keys : List ℕ) (misses : List RangeMiss) (own₀ : List ℕ) (held�
       reached_by = elim ends [
         | inl same ↦ elim before.reached_by [
           | inl none ↦ inl (same ∙ none)
-          | inr s ↦ inr (s.0, subst (λ (l : List RangeMiss). Contains l s.0) (sym (take_more misses n d below)) (Contains-append_left (take n misses) _ s.0 s.1), s.2 ∙ sym same)
+          | inr s ↦ inr (s.0, (first_cases misses n d s.0 below).1 (inl s.1), s.2 ∙ sym same)
         ]
-        | inr here ↦ inr (get_or misses n d, subst (λ (l : List RangeMiss). Contains l (get_or misses n d)) (sym (take_more misses n d below)) (Contains-push (take n misses) (get_or misses n d)), sym here)
+        | inr here ↦ inr (get_or misses n d, (first_cases misses n d (get_or misses n d) below).1 (inr refl), sym here)
       ];
     }
 

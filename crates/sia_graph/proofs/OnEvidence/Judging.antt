@@ -10,7 +10,6 @@ use Rattle.sia_events.specs.Dependencies.{WwEdge, WrEdge, RwEdge, HasEdge}
 use Rattle.sia_events.specs.DangerousStructures.{NoFirst, PassesSsi}
 use Rattle.sia_events.specs.Replay.{IsOrder, Keeps, IsSerializable}
 use Rattle.sia_events.specs.Laws.{ReplayLaw, SsiLaw}
-use Rattle.sia_parts.specs.declared.finding.Edge.{Edge}
 use Rattle.sia_parts.specs.declared.finding.Kind.{Kind}
 use Rattle.sia_parts.specs.declared.finding.Kind.TheVariants.{Ww, Wr, Rw}
 use Rattle.sia_parts.specs.declared.finding.Unexplained.{Unexplained}
@@ -23,8 +22,7 @@ use Rattle.sia_graph.specs.declared.ssi.Dangerous.{Dangerous}
 use Rattle.sia_graph.specs.declared.judgement.Judgement.{Judgement}
 use Rattle.sia_graph.specs.Judgements.{IsJudgement}
 use Rattle.sia_graph.specs.Orders.{Leads, IsKeepingOrder}
-use Rattle.sia_graph.specs.Verdicts.{IsVerdict}
-use Rattle.sia_graph.specs.Verdicts.{IsOrderVerdict}
+use Rattle.sia_graph.specs.Verdicts.{IsVerdict, IsOrderVerdict}
 
 module _ {A : Type 0} (rank : A → List ℕ) (P : A → Type 0) where
   -- nothing has P where the list is empty
@@ -42,14 +40,11 @@ module _ (h : List Event) where
   edge_of_kind Wr t u k e = (k, inr (inl e))
   edge_of_kind Rw t u k e = (k, inr (inr e))
 
-  has_edge : (e : Edge) → IsEdge h e → HasEdge h e.src e.dst
-  has_edge e is = edge_of_kind e.kind e.src e.dst e.key is
+  pub has_by : (t u : ℕ) → Leads (IsEdge h) t u → HasEdge h t u
+  has_by t u l = subst (λ x. HasEdge h x u) l.2 (subst (HasEdge h l.0.src) l.3 (edge_of_kind l.0.kind l.0.src l.0.dst l.0.key l.1))
 
-  leads_edge : (t u : ℕ) → Leads (IsEdge h) t u → HasEdge h t u
-  leads_edge t u l = subst (λ x. HasEdge h x u) l.2 (subst (HasEdge h l.0.src) l.3 (has_edge l.0 l.1))
-
-  edge_leads : (t u : ℕ) → HasEdge h t u → Leads (IsEdge h) t u
-  edge_leads t u w = by_kind w.0 w.1
+  pub leads_by : (t u : ℕ) → HasEdge h t u → Leads (IsEdge h) t u
+  leads_by t u w = by_kind w.0 w.1
     where
       by_kind : (k : ℕ) → WwEdge h t u k ⊎ WrEdge h t u k ⊎ RwEdge h t u k → Leads (IsEdge h) t u
       by_kind k (inl e) = (record { src = t; kind = Ww; dst = u; key = k }, e, refl, refl)
@@ -58,7 +53,7 @@ module _ (h : List Event) where
 
   module _ (wf : IsWellFormed h) (v : Verdict) (is : IsVerdict (IsCommitted h) (IsEdge h) v) where
     keeping : (order : List ℕ) → IsOrder h order → Keeps (HasEdge h) order → IsKeepingOrder (IsCommitted h) (IsEdge h) order
-    keeping order ordered kept = (ordered, λ t u l. kept t u (leads_edge t u l))
+    keeping order ordered kept = (ordered, λ t u l. kept t u (has_by t u l))
 
     -- some order keeps every edge only where the verdict is an order
     order_verdict : (order : List ℕ) → IsOrder h order → Keeps (HasEdge h) order → IsOrderVerdict v
@@ -69,7 +64,7 @@ module _ (h : List Event) where
         by_verdict (Cycle steps) i = absurd (i.0 order (keeping order ordered kept))
 
     kept_order : IsOrderVerdict v → (order : List ℕ) × IsOrder h order × Keeps (HasEdge h) order
-    kept_order ordered = grind (arith, edge_leads)
+    kept_order ordered = grind (arith, leads_by)
 
     module _ (unexplained : List Unexplained) (found : ListsUnexplained h (λ _. ⊤) unexplained) where
       all_explained : unexplained ≡ [] → NoneUnexplained h

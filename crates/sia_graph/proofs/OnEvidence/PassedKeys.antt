@@ -1,6 +1,5 @@
 -- The keys that were passed over, cut between own ones, stretch by stretch.
-use Rattle.std.proofs.Common.{◌≡◌, ◌⊎◌, inl, inr, ℕ, ◌+◌, ◌<◌, ◌≤◌, List, [], ◌∷◌, ◌++◌, Bor, Option, None, Some, true, false, length, get_or, ltb, min, unwrap_or, sym, subst, arith}
-use Rattle.std.specs.Prelude.{◌↔◌, Contains, IfSome, is_some, option_copied}
+use Rattle.std.proofs.Common.{◌≡◌, ◌⊎◌, inl, inr, ℕ, ◌+◌, ◌<◌, ◌≤◌, List, [], ◌∷◌, ◌++◌, Bor, Option, None, Some, true, false, length, get_or, ltb, min, unwrap_or, sym, subst, arith, ◌↔◌, Contains, IfSome, is_some, option_copied}
 use Rattle.std.specs.List.Sorted.{IsNonDecreasing, IsPartitionPoint}
 use Rattle.std.proofs.lemmas.Bool.{cases_lt, ltb-true, ltb-false}
 use Rattle.std.proofs.lemmas.List.{get_or_default}
@@ -29,11 +28,10 @@ pub next_key : (keys : List ℕ) (rise : IsNonDecreasing keys) (from at : ℕ) (
 next_key keys rise from at point None to next order none here is = grind (arith, ltb-false, none_from, ltb-true, rest_from, above)
 next_key keys rise from at point (Some there) to next order some here is =
     let inside = ltb-true at (length keys) (sym some) in
-    let rest = rest_from keys rise from at point there.now inside here in
     let up = above keys rise from at point there.now inside here in (
       omega arith,
       omega arith,
-      none_from keys rise from at point next (λ k d l b. let r = rest k d l b in omega arith),
+      none_from keys rise from at point next (λ k d l b. let r = (rest_from keys rise from at point there.now inside here) k d l b in omega arith),
       λ l. let same : there.now ≡ next = omega arith in subst (λ x. Contains keys x) same (at, inside, sym here),
     )
 

@@ -1,8 +1,5 @@
 -- What is taken of the nodes is, by name and without the blocks, taken of the members that they stand for.
-use Rattle.std.proofs.Common.{◌≡◌, ℕ, ◌+◌, ◌-◌, ◌*◌, ◌<◌, ◌≤◌, List, Bool, false, length, get_or, map, ap, sym, subst, ◌∙◌, arith}
-use Rattle.std.specs.Prelude.{Contains, IsTrue}
-use Rattle.std.proofs.lemmas.List.{get_or-map, get_or_default, length-map}
-use Rattle.std.proofs.lemmas.List.FromFn.{length-range_with_len}
+use Rattle.std.proofs.Common.{◌≡◌, ℕ, ◌+◌, ◌-◌, ◌*◌, ◌<◌, ◌≤◌, List, Bool, false, length, get_or, map, ap, sym, subst, ◌∙◌, arith, Contains, IsTrue}
 use Rattle.sia_parts.specs.declared.finding.Edge.{Edge}
 use Rattle.sia_graph.specs.declared.order.Graph.{Graph}
 use Rattle.sia_graph.specs.declared.order.Taken.{Taken}
@@ -13,18 +10,9 @@ use Rattle.sia_graph.specs.NarrowSteps.{name_of}
 use Rattle.sia_graph.specs.Orders.{IsLeastOrder}
 use Rattle.sia_graph.specs.Taken.{AreLeftNodes, AreLeftOver, AreTakenNodes, IsTaken, node_list}
 use Rattle.sia_graph.proofs.OfLaws.Blocks.{in_members, members_in}
-use Rattle.sia_graph.proofs.Shared.Ranges.{range_is}
+use Rattle.sia_graph.proofs.Orders.TakenFronts.{range_in}
 use Rattle.sia_graph.proofs.Shared.StandIns.{StandFor, least, members, none_keeps, stuck}
-
-module _ (f : ℕ → ℕ) (xs : List ℕ) where
-  to_map : (a : ℕ) → Contains xs a → Contains (map f xs) (f a)
-  to_map a c = (c.0, (let l = c.1 in omega (arith, length-map xs f)), get_or-map f xs c.0 a (f a) c.1 ∙ ap f c.2)
-
-  from_map : (t : ℕ) → Contains (map f xs) t → (a : ℕ) × Contains xs a × (f a ≡ t)
-  from_map t c =
-      let inside : c.0 < length xs = let l = c.1 in omega (arith, length-map xs f) in
-      let a = get_or xs c.0 0 in
-      (a, (c.0, inside, get_or_default xs c.0 a 0 inside), sym (get_or-map f xs c.0 0 t inside) ∙ c.2)
+use Rattle.sia_index.proofs.VersionRows.DealtVersions.{contains_map, map_contains}
 
 module _ (M : ℕ → Type 0) (E : Edge → Type 0) (size : ℕ) (txns : List ℕ) (graph : Graph) (stands : StandFor M E (2 * size) (node_list size txns) (IsGraphEdge graph) (name_of size txns)) where
   abbrev ids : List ℕ
@@ -32,9 +20,6 @@ module _ (M : ℕ → Type 0) (E : Edge → Type 0) (size : ℕ) (txns : List �
 
   abbrev name : ℕ → ℕ
   name = name_of size txns
-
-  many : length (node_list size txns) ≡ 2 * size + length txns
-  many = length-range_with_len 0 (2 * size + length txns)
 
   left_over : (left : List Bool) → AreLeftNodes size txns graph left → AreLeftOver M E txns left
   left_over left w = record {
@@ -45,27 +30,22 @@ module _ (M : ℕ → Type 0) (E : Edge → Type 0) (size : ℕ) (txns : List �
     is_stuck = stuck M E (2 * size) ids (IsGraphEdge graph) name stands w.set w.is_stuck;
     each = λ t. (
       (λ c.
-          let a = from_map name (without_blocks (2 * size) w.set) t c in
+          let a = map_contains name (without_blocks (2 * size) w.set) t c in
           let m = members_in (2 * size) w.set a.0 a.1 in
           let i = of_node a.0 m.0 m.1 in
           let e : 2 * size + i.0 - 2 * size ≡ i.0 = omega arith in
           (i.0, i.1, ap (λ n. get_or txns n 0) (sym e) ∙ ap (λ n. name n) i.2 ∙ a.2, i.3)),
       (λ i.
-          let c = (w.each i.0 i.1).0 i.3 in
           let e : 2 * size + i.0 - 2 * size ≡ i.0 = omega arith in
           subst (λ x. Contains (map name (without_blocks (2 * size) w.set)) x) (ap (λ n. get_or txns n 0) e ∙ i.2)
-          (to_map name (without_blocks (2 * size) w.set) (2 * size + i.0) (in_members (2 * size) w.set (2 * size + i.0) c (omega arith)))),
+          (contains_map name (without_blocks (2 * size) w.set) (2 * size + i.0) (in_members (2 * size) w.set (2 * size + i.0) ((w.each i.0 i.1).0 i.3) (omega arith)))),
     );
   }
     where
       -- a member of the set is the node of a transaction that is left
       of_node : (a : ℕ) → Contains w.set a → 2 * size ≤ a → (i : ℕ) × (i < length txns) × (2 * size + i ≡ a) × IsTrue (get_or left i false)
       of_node a c above =
-          let node = (w.is_stuck.self_fed a c).0 in
-          let at = range_is (2 * size + length txns) node.0 node.1 in
-          let l = node.1 in
-          let f = get_or_default (node_list size txns) node.0 0 a node.1 in
-          let m = many in
+          let l = range_in (2 * size + length txns) a (w.is_stuck.self_fed a c).0 in
           let same : 2 * size + (a - 2 * size) ≡ a = omega arith in
           let inside : a - 2 * size < length txns = omega arith in
           (a - 2 * size, inside, same, (w.each (a - 2 * size) inside).1 (subst (λ x. Contains w.set x) (sym same) c))

@@ -1,21 +1,18 @@
 -- Lists whose elements are linked: each tells the next.
-use Rattle.std.proofs.Common.{◌≡◌, ◌≢◌, ℕ, zero, suc, ◌<◌, ◌≤◌, List, [], ◌∷◌, length, get_or, set, refl, ap, sym, subst, ◌∙◌, arith}
-use Rattle.std.specs.Prelude.{All, Contains}
+use Rattle.std.proofs.Common.{◌≡◌, ◌≢◌, ℕ, zero, suc, ◌<◌, ◌≤◌, List, [], ◌∷◌, length, get_or, set, refl, ap, sym, subst, ◌∙◌, arith, All, Contains, get_or-set_same, get_or-set_other, length-set}
 use Rattle.std.proofs.lemmas.Bool.{cases_eq}
-use Rattle.std.proofs.lemmas.List.{get_or-set_same, get_or-set_other, length-set}
 use Rattle.sia_graph.specs.UnderWay.{AreChains, IsChain}
 
 -- a link from what isn't in the chain is none of its links
 pub chain_kept : (next : List ℕ) (node v at : ℕ) (xs : List ℕ) → ¬ Contains xs node → IsChain next at xs → IsChain (set next node v) at xs
 chain_kept next node v at [] out c = c
 chain_kept next node v at (x ∷ xs) out c =
-    let other : x ≢ node = λ e. out (0, omega arith, e) in
     let long = length-set next node v in
     let l = c.2 in (
       c.0,
       c.1,
       omega arith,
-      subst (λ n. IsChain (set next node v) n xs) (sym (get_or-set_other next node x v 0 other))
+      subst (λ n. IsChain (set next node v) n xs) (sym (get_or-set_other next node x v 0 (λ e. out (0, omega arith, e))))
           (chain_kept next node v (get_or next x 0) xs (λ m. let b = m.1 in out (suc m.0, omega arith, m.2)) c.3),
     )
 
@@ -39,8 +36,7 @@ chain_from next w at (x ∷ xs) c m = by_place (chain_from next w (get_or next x
 pub chain_once : (next : List ℕ) (at x : ℕ) (xs : List ℕ) → IsChain next at (x ∷ xs) → ¬ Contains xs x
 chain_once next at x xs c m =
     let w = chain_from next x (get_or next x 0) xs c.3 m in
-    let e = equally_long next x w.0 (x ∷ xs) w.1 (subst (λ a. IsChain next a (x ∷ xs)) c.0 c) in
-    omega arith
+    omega (arith, equally_long next x w.0 (x ∷ xs) w.1 (subst (λ a. IsChain next a (x ∷ xs)) c.0 c))
 
 module _ (first next : List ℕ) (lists : List (List ℕ)) (are : AreChains first next lists) (at : ℕ) (below : at < length first) where
   -- one chain is put in the place of another

@@ -1,8 +1,6 @@
 -- A node that was ready is done.
-use Rattle.std.proofs.Common.{◌≡◌, ◌≢◌, inl, inr, ℕ, ◌+◌, ◌<◌, Bool, true, false, List, [], length, get_or, set, sym, ◌∙◌, arith}
-use Rattle.std.specs.Prelude.{◌↔◌}
+use Rattle.std.proofs.Common.{◌≡◌, ◌≢◌, inl, inr, ℕ, ◌+◌, ◌<◌, Bool, true, false, List, [], length, get_or, set, sym, ◌∙◌, arith, ◌↔◌, get_or-set_same, get_or-set_other, length-set}
 use Rattle.std.proofs.lemmas.Bool.{cases_Bool, cases_eq}
-use Rattle.std.proofs.lemmas.List.{get_or-set_same, get_or-set_other, length-set}
 use Rattle.sia_graph.specs.Graphs.{IsGraph}
 use Rattle.sia_graph.specs.UnderWay.{IsDone, IsReadyAt, IsReadyIn, IsTaking, IsUnderWay, none_pending, times, told}
 use Rattle.sia_graph.specs.declared.order.Graph.{Graph}
@@ -27,11 +25,8 @@ module _ (n : ℕ) (g : Graph) (graph : IsGraph n g) (done : List Bool) (k : Tak
   done_before : (s : ℕ) → s ≢ t → IsDone more s → IsDone done s
   done_before s other d = sym (get_or-set_other done t s true false other) ∙ d
 
-  not_yet : get_or done t false ≡ false
-  not_yet = elim (cases_Bool (get_or done t false)) [ inl d ↦ absurd (left d) | inr f ↦ f ]
-
   fewer : (u : ℕ) → told g.targets done u ≡ told g.targets more u + times u row
-  fewer u = told_done g.targets done u t (let e = graph.targets_long in omega arith) t_in_done not_yet
+  fewer u = told_done g.targets done u t (let e = graph.targets_long in omega arith) t_in_done (elim (cases_Bool (get_or done t false)) [ inl d ↦ absurd (left d) | inr f ↦ f ])
 
   pub done_under_way : IsUnderWay g (set done t true) k.counts.items k.passed.items k.first_waiting.items k.next_waiting.items (λ u. times u (get_or g.targets t [])) t
   done_under_way = record {

@@ -1,11 +1,7 @@
 -- What a run and others hold after one place is put in or taken out.
-use Rattle.std.proofs.Common.{◌≡◌, ◌≢◌, ◌⊎◌, inl, inr, ℕ, suc, ◌+◌, ◌-◌, ◌<◌, ◌≤◌, false, cond, Bor, Option, None, Some, List, [], ◌∷◌, ◌++◌, length, get_or, eqb, refl, ap, subst, ◌∙◌, arith}
-use Rattle.std.specs.Prelude.{◌↔◌}
+use Rattle.std.proofs.Common.{◌≡◌, ◌≢◌, ◌⊎◌, inl, inr, ℕ, suc, ◌+◌, ◌-◌, ◌<◌, ◌≤◌, false, cond, Bor, Option, None, Some, List, [], ◌∷◌, ◌++◌, length, get_or, eqb, refl, ap, subst, ◌∙◌, arith, ◌↔◌, count_by, IfSome, option_copied, unwrap_or, is_lt, nat_cmp}
 use Rattle.std.specs.BinaryHeap.{IsHeap, IsUpperBound, heap_items}
-use Rattle.std.specs.List.{count_by}
 use Rattle.std.specs.List.Sorted.{IsPermutation, IsStrictlyIncreasing}
-use Rattle.std.specs.Option.{IfSome, option_copied, unwrap_or}
-use Rattle.std.specs.Ordering.{is_lt, nat_cmp}
 use Rattle.std.specs.Slice.{IsGetResult, IsItemAt}
 use Rattle.std.specs.declared.cmp.Reverse.{Reverse}
 use Rattle.std.proofs.lemmas.Bool.{cases_Bool, cases_lt, eqb-true}
@@ -48,9 +44,6 @@ others_less run place fewer more p i =
 module _ (fewer more : ℕ → ℕ) (place : ℕ) (differ : (i : ℕ) → more i ≡ one place i + fewer i) where
   pub at_place : more place ≡ suc (fewer place)
   at_place = let a = differ place in grind (arith, nat_tests)
-
-  pub once_less : ((i : ℕ) → more i ≤ 1) → (i : ℕ) → fewer i ≤ 1
-  once_less once i = let a = differ i in let b = once i in omega arith
 
   pub once_more : fewer place ≡ 0 → ((i : ℕ) → fewer i ≤ 1) → (i : ℕ) → more i ≤ 1
   once_more none once i = let a = differ i in let b = once i in grind (arith, nat_tests)
@@ -118,7 +111,7 @@ taken_from k new place is differ bound up order =
         λ r. elim r [ inl b ↦ (let h = (less i).0 b in (inl h.0, h.1)) | inr w ↦ (inr w, λ e. absurd (let b = w.0 in omega arith)) ],
         λ r. elim r.0 [ inl b ↦ inl ((less i).1 (b, r.1)) | inr w ↦ inr w ],
       );
-      behind = (record { ascends = up; order = order; once = once_less few many place differ is.0.once; before = λ i h. is.0.before i ((less i).0 h).0 }, is.1);
+      behind = (record { ascends = up; order = order; once = λ i. let a = differ i in let b = is.0.once i in omega arith; before = λ i h. is.0.before i ((less i).0 h).0 }, is.1);
       same = refl;
     }
 

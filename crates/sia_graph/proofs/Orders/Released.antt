@@ -1,7 +1,6 @@
 -- Which nodes are ready, behind the end and from there on, once the count of one changed.
 -- What is at hand of nodes that are taken, once less holds one of them back.
-use Rattle.std.proofs.Common.{◌≡◌, ◌≢◌, ◌⊎◌, ℕ, ◌<◌, List, length, get_or, arith, ◌-◌, ◌≤◌, [], ◌∷◌, Bool, Some, set, slice_get, inr, sym, subst, rules}
-use Rattle.std.specs.Prelude.{◌↔◌, All, Contains}
+use Rattle.std.proofs.Common.{◌≡◌, ◌≢◌, ◌⊎◌, ℕ, ◌<◌, List, length, get_or, arith, ◌-◌, ◌≤◌, [], ◌∷◌, Bool, Some, set, slice_get, inr, sym, subst, rules, ◌↔◌, All, Contains}
 use Rattle.std.proofs.lemmas.Bool.{cases_eq, cases_lt}
 use Rattle.sia_graph.specs.UnderWay.{IsReadyAt, AreChains, IsBehind, IsDone, IsOneFewer, IsTaking, IsUnderWay, WaitsAt}
 use Rattle.std.proofs.lemmas.List.{get_or-set_same, get_or-set_other, get_or_default, length-set}
@@ -29,8 +28,7 @@ module _ (Done Behind : ℕ → Type 0) (end : ℕ) (counts cs : List ℕ) (long
 -- the sources of a node are nodes
 pub sources_within : (g : Graph) (n node : ℕ) → IsGraph n g → (row : List ℕ) → row ≡ get_or g.sources node [] → All (λ s. s < n) row
 sources_within g n node graph row is k d l =
-    let c : Contains (get_or g.sources node []) (get_or row k d) = subst (λ xs. Contains xs (get_or row k d)) is (k, l, get_or_default row k (get_or row k d) d l) in
-    (graph.within (get_or row k d) node (inr c)).0
+    (graph.within (get_or row k d) node (inr (subst (λ xs. Contains xs (get_or row k d)) is (k, l, get_or_default row k (get_or row k d) d l)))).0
 
 module _ (g : Graph) (done : List Bool) (k : Taking) (node : ℕ) (below : node < length k.counts.items) (v old : ℕ) (is_old : old ≡ get_or k.counts.items node 0) (is_v : v ≡ old - 1)
     (pending less : ℕ → ℕ) (waking : ℕ) (is : IsTaking g done k pending waking) (fewer : IsOneFewer node pending less) where

@@ -1,9 +1,11 @@
 -- How many steps that are told at nodes that aren't done lead to a node.
-use Rattle.std.proofs.Common.{◌≡◌, inl, inr, ℕ, zero, suc, ◌+◌, ◌<◌, Bool, true, false, List, [], ◌∷◌, length, get_or, set, take, eqb, refl, ap, ◌∙◌, arith}
-use Rattle.std.specs.Prelude.{Contains}
+use Rattle.std.proofs.Common.{◌≡◌, inl, inr, ℕ, zero, suc, ◌+◌, ◌<◌, Bool, true, false, List, [], ◌∷◌, length, get_or, set, take, eqb, refl, ap, ◌∙◌, arith, Contains, subst}
 use Rattle.std.proofs.lemmas.Bool.{cases_Bool, cases_lt, eqb-true, eq-eqb}
 use Rattle.sia_graph.proofs.Shared.Counted.{count_first, count_later}
 use Rattle.sia_graph.specs.UnderWay.{IsDone, times, told}
+use Rattle.std.proofs.lemmas.List.{get_or_default}
+use Rattle.sia_graph.specs.Graphs.{IsGraph}
+use Rattle.sia_graph.specs.declared.order.Graph.{Graph}
 
 -- an element that is counted, and a count that isn't 0
 pub some_times : (t : ℕ) (xs : List ℕ) → 0 < times t xs → Contains xs t
@@ -78,3 +80,8 @@ told_more (row ∷ rows) t (suc i) l =
     let a : times t row + (told (take i rows) [] t + times t (get_or rows i [])) ≡ times t row + told (take i rows) [] t + times t (get_or rows i []) = omega arith in
     let z : suc i + 1 ≡ suc (i + 1) = omega arith in
     ap (λ n. told (take n (row ∷ rows)) [] t) z ∙ ap (λ n. times t row + n) (told_more rows t i (omega arith)) ∙ a
+
+-- a target is a node
+pub target_within : (g : Graph) (n node i : ℕ) → IsGraph n g → (row : List ℕ) → row ≡ get_or g.targets node [] → i < length row → get_or row i 0 < n
+target_within g n node i graph row is l =
+    (graph.within node (get_or row i 0) (inl (subst (λ xs. Contains xs (get_or row i 0)) is (i, l, get_or_default row i (get_or row i 0) 0 l)))).1

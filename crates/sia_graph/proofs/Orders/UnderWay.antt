@@ -1,23 +1,13 @@
 -- One thing after another happens to nodes that are taken: less holds one back, so that it waits or is free; one is done, and those
 -- that wait at it are woken.
-use Rattle.std.proofs.Common.{◌≡◌, ◌≢◌, ◌⊎◌, inl, inr, ℕ, suc, ◌+◌, ◌<◌, ◌≤◌, Bool, List, [], ◌∷◌, length, get_or, set, slice_get, Some, refl, ap, sym, subst, ◌∙◌, arith}
-use Rattle.std.specs.Prelude.{◌↔◌, All, Contains}
+use Rattle.std.proofs.Common.{◌≡◌, ◌≢◌, inl, inr, ℕ, ◌+◌, ◌<◌, ◌≤◌, Bool, List, [], ◌∷◌, length, get_or, set, slice_get, Some, ap, sym, subst, ◌∙◌, arith, ◌↔◌, All, Contains}
 use Rattle.std.proofs.lemmas.Bool.{cases_eq, cases_lt}
 use Rattle.std.proofs.lemmas.List.{get_or-set_same, get_or-set_other, get_or_default}
 use Rattle.std.proofs.lemmas.Option.{same_Some, slice_get_within, slice_get-get_or, get_or_from_slice_get}
 use Rattle.sia_graph.specs.Graphs.{LeadsTo}
 use Rattle.sia_graph.specs.UnderWay.{AreChains, IsDone, IsOneFewer, IsUnderWay, WaitsAt, told}
 use Rattle.sia_graph.specs.declared.order.Graph.{Graph}
-
--- what stands in a row that has one more at its head
-pub head_or : (x y : ℕ) (xs : List ℕ) → Contains (x ∷ xs) y → (x ≡ y) ⊎ Contains xs y
-head_or x y xs c = grind arith
-
-pub at_head : (x : ℕ) (xs : List ℕ) → Contains (x ∷ xs) x
-at_head x xs = (0, omega arith, refl)
-
-pub behind_head : (x y : ℕ) (xs : List ℕ) → Contains xs y → Contains (x ∷ xs) y
-behind_head x y xs c = let l = c.1 in (suc c.0, omega arith, c.2)
+use Rattle.sia_parts.proofs.Auditing.Members.{contains_first, contains_later, first_or_later}
 
 -- a node that waits at s is led to from there
 pub waits_led : (g : Graph) (counts passed : List ℕ) (t s : ℕ) → WaitsAt g.sources counts passed t s → LeadsTo g s t
@@ -125,8 +115,7 @@ module _ (g : Graph) (done : List Bool) (counts passed first next : List ℕ) (p
           (all : (i : ℕ) → get_or passed node 0 ≤ i → i < get_or ps node 0 → IsDone done (get_or (get_or g.sources node []) i 0)) where
         pub none_listed : All (λ list. ¬ Contains list node) is.lists
         none_listed k d l c =
-            let b : k < length counts = omega arith in
-            not_waiting k ((is.waits node k b).0 (subst (λ xs. Contains xs node) (get_or_default is.lists k d [] l) c))
+            not_waiting k ((is.waits node k (omega arith)).0 (subst (λ xs. Contains xs node) (get_or_default is.lists k d [] l) c))
 
         listed : (t s : ℕ) → s < length counts → Contains (get_or (set is.lists at (node ∷ get_or is.lists at [])) s []) t ↔ now_waits t s
         listed t s l =
@@ -136,13 +125,13 @@ module _ (g : Graph) (done : List Bool) (counts passed first next : List ℕ) (p
                   let row : get_or (set is.lists at (node ∷ get_or is.lists at [])) s [] ≡ node ∷ get_or is.lists s [] =
                   ap (λ k. get_or (set is.lists at (node ∷ get_or is.lists at [])) k []) same ∙ get_or-set_same is.lists at (node ∷ get_or is.lists at []) [] (omega arith)
                   ∙ ap (λ k. node ∷ get_or is.lists k []) (sym same) in (
-                    λ c. elim (head_or node t (get_or is.lists s []) (subst (λ xs. Contains xs t) row c)) [
-                      | inl here ↦ grind (arith, cases_eq, get_or-set_same, head_or, was_now, not_waiting, at_head, behind_head, now_was, get_or-set_other, same_Some)
+                    λ c. elim (first_or_later node t (get_or is.lists s []) (subst (λ xs. Contains xs t) row c)) [
+                      | inl here ↦ grind (arith, cases_eq, get_or-set_same, first_or_later, was_now, not_waiting, contains_first, contains_later, now_was, get_or-set_other, same_Some)
                       | inr there ↦ let w = (is.waits t s l).0 there in was_now t s (λ e. not_waiting s (subst (λ u. waits_at u s) e w)) w
                     ],
                     λ w. subst (λ xs. Contains xs t) (sym row) (elim (cases_eq t node) [
-                      | inl e ↦ subst (λ u. Contains (node ∷ get_or is.lists s []) u) (sym e) (at_head node (get_or is.lists s []))
-                      | inr n ↦ behind_head node t (get_or is.lists s []) ((is.waits t s l).1 (now_was t s n w))
+                      | inl e ↦ subst (λ u. Contains (node ∷ get_or is.lists s []) u) (sym e) (contains_first node (get_or is.lists s []))
+                      | inr n ↦ contains_later node t (get_or is.lists s []) ((is.waits t s l).1 (now_was t s n w))
                     ]),
                   )
               | inr other ↦

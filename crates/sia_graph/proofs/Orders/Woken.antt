@@ -1,6 +1,5 @@
 -- The first of those that wait at a node is woken.
-use Rattle.std.proofs.Common.{◌≡◌, ◌≢◌, ◌+◌, ◌<◌, ℕ, suc, [], ◌∷◌, Bool, true, List, Some, length, get_or, set, slice_get, inl, inr, eqb, ap, refl, sym, subst, ◌∙◌, arith, rules}
-use Rattle.std.specs.Prelude.{◌↔◌, ◌&&◌, Contains}
+use Rattle.std.proofs.Common.{◌≡◌, ◌≢◌, ◌+◌, ◌<◌, ℕ, suc, [], ◌∷◌, Bool, true, List, Some, length, get_or, set, slice_get, inl, inr, eqb, ap, refl, sym, subst, ◌∙◌, arith, rules, ◌↔◌, ◌&&◌, Contains}
 use Rattle.std.specs.List.{count_by, range_with_len}
 use Rattle.std.proofs.lemmas.Bool.{and_from, and_parts, cases_Bool, cases_eq, cases_lt, eq-eqb, eqb-true}
 use Rattle.std.proofs.lemmas.List.{get_or-set_same, get_or-set_other, get_or_past, length-set}
@@ -12,7 +11,8 @@ use Rattle.sia_graph.specs.declared.order.Taking.{Taking}
 use Rattle.sia_graph.proofs.Orders.Chains.{chain_ended, chain_goes_on, chain_once}
 use Rattle.sia_graph.proofs.Shared.Counted.{one_fewer}
 use Rattle.sia_graph.proofs.Orders.Released.{none_freed}
-use Rattle.sia_graph.proofs.Orders.UnderWay.{at_head, behind_head, changed, head_or, now_was, was_now}
+use Rattle.sia_graph.proofs.Orders.UnderWay.{changed, now_was, was_now}
+use Rattle.sia_parts.proofs.Auditing.Members.{contains_first, contains_later, first_or_later}
 
 -- t waits at s, as a test
 abbrev pub waits_test : List (List ℕ) → List ℕ → List ℕ → ℕ → ℕ → Bool
@@ -50,31 +50,12 @@ module _ (g : Graph) (done : List Bool) (k : Taking) (pending : ℕ → ℕ) (at
   at_first = let e = is.under_way.first_long in omega arith
 
   pub none_wait : get_or k.first_waiting.items at 0 ≡ 4294967295 → IsTaking g done k pending (length k.counts.items)
-  none_wait none = record {
-    under_way = record {
-      passed_long = is.under_way.passed_long;
-      first_long = is.under_way.first_long;
-      next_long = is.under_way.next_long;
-      done_long = is.under_way.done_long;
-      lists = is.under_way.lists;
-      chains = is.under_way.chains;
-      waits = is.under_way.waits;
-      held = is.under_way.held;
-      free = is.under_way.free;
-      passed_done = is.under_way.passed_done;
-      stops = is.under_way.stops;
-      left = λ t s w d.
-          let e = is.under_way.left t s w d in
-          let c = (is.under_way.waits t at below).1 (subst (λ x. WaitsAt g.sources k.counts.items k.passed.items t x) e w) in
-          let z = chain_ended k.first_waiting.items k.next_waiting.items is.under_way.lists is.under_way.chains at at_first none in
-          let l = (subst (λ xs. Contains xs t) z c).1 in
-          absurd (omega arith);
-      taken = is.under_way.taken;
-    };
-    ready = is.ready;
-    before = is.before;
-    within = is.within;
-  }
+  none_wait none =
+      let left : (t s : ℕ) → WaitsAt g.sources k.counts.items k.passed.items t s → IsDone done s → s ≡ length k.counts.items = λ t s w d.
+      let c = (is.under_way.waits t at below).1 (subst (λ x. WaitsAt g.sources k.counts.items k.passed.items t x) (is.under_way.left t s w d) w) in
+      let z = chain_ended k.first_waiting.items k.next_waiting.items is.under_way.lists is.under_way.chains at at_first none in
+      absurd (omega (arith, (subst (λ xs. Contains xs t) z c).1)) in
+      grind (arith, left)
 
   module _ (node : ℕ) (is_node : node ≡ get_or k.first_waiting.items at 0) (some : node ≢ 4294967295) where
     abbrev GoesOn : ℕ → Type 0
@@ -88,7 +69,7 @@ module _ (g : Graph) (done : List Bool) (k : Taking) (pending : ℕ → ℕ) (at
     node_within = let l = goes_on.0 in let e = is.under_way.next_long in omega arith
 
     pub node_waits : WaitsAt g.sources k.counts.items k.passed.items node at
-    node_waits = (is.under_way.waits node at below).0 (subst (λ xs. Contains xs node) (sym goes_on.2) (at_head node goes_on.1))
+    node_waits = (is.under_way.waits node at below).0 (subst (λ xs. Contains xs node) (sym goes_on.2) (contains_first node goes_on.1))
 
     module _ (v : ℕ) (is_v : v ≡ get_or k.counts.items node 0 + 1) where
       abbrev cs : List ℕ
@@ -124,11 +105,11 @@ module _ (g : Graph) (done : List Bool) (k : Taking) (pending : ℕ → ℕ) (at
           (λ c.
               let in' = subst (λ xs. Contains xs t) (row s same) c in
               let n : t ≢ node = λ e. not_in_rest (subst (λ u. Contains rest u) e in') in
-              to_new t s n ((is.under_way.waits t s l).0 (subst (λ x. Contains (get_or is.under_way.lists x []) t) (sym same) (subst (λ xs. Contains xs t) (sym goes_on.2) (behind_head node t rest in'))))),
+              to_new t s n ((is.under_way.waits t s l).0 (subst (λ x. Contains (get_or is.under_way.lists x []) t) (sym same) (subst (λ xs. Contains xs t) (sym goes_on.2) (contains_later node t rest in'))))),
           (λ w.
               let old = waited_before t s w in
               let c = subst (λ xs. Contains xs t) goes_on.2 (subst (λ x. Contains (get_or is.under_way.lists x []) t) same ((is.under_way.waits t s l).1 old.0)) in
-              subst (λ xs. Contains xs t) (sym (row s same)) (elim (head_or node t rest c) [ inl e ↦ absurd (old.1 (sym e)) | inr in' ↦ in' ])),
+              subst (λ xs. Contains xs t) (sym (row s same)) (elim (first_or_later node t rest c) [ inl e ↦ absurd (old.1 (sym e)) | inr in' ↦ in' ])),
         )
         | inr other ↦
             let same : get_or (set is.under_way.lists at rest) s [] ≡ get_or is.under_way.lists s [] = get_or-set_other is.under_way.lists at s rest [] other in (

@@ -1,6 +1,6 @@
 -- The chain of a transaction's events, and what a replay along it tells.
 -- Steps of the maps and sets of a replay.
-use Rattle.std.proofs.Common.{◌≡◌, ◌≢◌, ◌⊎◌, inl, inr, ℕ, zero, suc, ◌+◌, ◌-◌, ◌<◌, ◌≤◌, true, false, cond, List, [], ◌∷◌, ◌++◌, length, get_or, drop, slice_get, Option, Some, eqb, ap, sym, ◌∙◌, refl, subst, arith, add-one, Bool, set, None, unwrap_or}
+use Rattle.std.proofs.Common.{◌≡◌, ◌≢◌, ◌⊎◌, inl, inr, ℕ, zero, suc, ◌+◌, ◌-◌, ◌<◌, ◌≤◌, true, false, cond, List, [], ◌∷◌, ◌++◌, length, get_or, drop, slice_get, Option, Some, eqb, ap, sym, ◌∙◌, refl, subst, arith, add-one, Bool, set, None, unwrap_or, IsTrue, ◌↔◌, is_some, nat_cmp}
 use Rattle.std.specs.BTreeMap.{BTreeMap, btree_map_len, get, is_at, Updates}
 use Rattle.std.proofs.lemmas.Bool.{cases_Bool, cases_lt, eqb-true, eq-eqb, ne_eqb, cases_eq, le-ltb, lt-ltb}
 use Rattle.std.proofs.lemmas.List.{drop_more, drop-drop, get_or-set_same, get_or-set_other, length-set, get_or_default}
@@ -12,10 +12,7 @@ use Rattle.sia_events.specs.Replay.{events_of, IsOrder}
 use Rattle.sia_graph.specs.declared.serial_replay.Mismatch.{Mismatch}
 use Rattle.sia_graph.specs.Replaying.{AreNext, AreWritten, IsRight, IsWrongAt, Tells, after, first_at, version_in, AreCommits, AreFirsts}
 use Rattle.sia_graph.proofs.Shared.LastWriter.{events_from}
-use Rattle.std.specs.Prelude.{IsTrue, ◌↔◌}
 use Rattle.std.specs.Map.{lookup}
-use Rattle.std.specs.Option.{is_some}
-use Rattle.std.specs.Ordering.{nat_cmp}
 use Rattle.sia_events.specs.Refusals.{IsWellFormed}
 use Rattle.sia_events.specs.Transactions.{CommitsAt, IsCommitted}
 use Rattle.sia_events.proofs.Writing.WellFormed.{one_commit}
@@ -23,8 +20,7 @@ use Rattle.sia_graph.proofs.Shared.Facts.{same_committer}
 
 pub drop_at : (h : List Event) (p : ℕ) (e : Event) → slice_get h p ≡ Some e → drop p h ≡ e ∷ drop (p + 1) h
 drop_at h p e at =
-    let l = slice_get_within h p e at in
-    drop_more h p e l ∙ ap (λ x. x ∷ drop (p + 1) h) (get_or_from_slice_get h p e e at)
+    drop_more h p e (slice_get_within h p e at) ∙ ap (λ x. x ∷ drop (p + 1) h) (get_or_from_slice_get h p e e at)
 
 -- the chain at its end
 pub chain_end : (t n : ℕ) (h : List Event) → 0 < n → first_at t n h ≡ 0 → events_from n h t ≡ []
@@ -88,11 +84,10 @@ module _ (h : List Event) (t : ℕ) (start : ℕ → ℕ) (versions : BTreeMap �
       let i = w.0 in
       let e = w.1 in
       let place : at ≡ suc (on.past + i) = let a = w.2 in omega arith in
-      let there : slice_get h (on.past + i) ≡ Some e = slice_drop h on.past i e w.3 in
       let after_it : drop (i + 1) (drop on.past h) ≡ drop at h = drop-drop (i + 1) on.past h ∙ (let b : on.past + (i + 1) ≡ at = let a = w.2 in omega arith in ap (λ n. drop n h) b) in (
         e,
         (
-          ap (at_place h) place ∙ there,
+          ap (at_place h) place ∙ slice_drop h on.past i e w.3,
           w.4,
           (let a = w.2 in omega arith),
           w.5 ∙ ap (λ (l : List Event). (at, e) ∷ events_from (at + 1) l t) after_it,
@@ -112,9 +107,8 @@ module _ (h : List Event) (t : ℕ) (start : ℕ → ℕ) (versions : BTreeMap �
     next = next ∙ ap (λ u. first_at u (at + 1) (drop at h)) n.1;
     written = written;
     told = λ others r tells.
-        let rest = events_from (at + 1) (drop at h) t ++ others in
         let f : version_in now ≡ after (version_in versions) e = λ i k. is k i in
-        let here : Tells h (version_in versions) ((at, e) ∷ rest) r = grind arith in
+        let here : Tells h (version_in versions) ((at, e) ∷ (events_from (at + 1) (drop at h) t ++ others)) r = grind arith in
         on.told others r (subst (λ (l : List (ℕ × Event)). Tells h (version_in versions) (l ++ others) r) (sym n.3) here);
   }
 
@@ -122,8 +116,7 @@ module _ (h : List Event) (t : ℕ) (start : ℕ → ℕ) (versions : BTreeMap �
   pub told_wrong : (e : Event) → IsNextEvent e → (key found : ℕ) → IsWrongAt h (version_in versions) e key found → (m : Mismatch) → m.place ≡ at → m.key ≡ key → m.found ≡ found
       → (others : List (ℕ × Event)) → Tells h start (events_of h t ++ others) (Some m)
   told_wrong e n key found wrong m a b c others =
-      let rest = events_from (at + 1) (drop at h) t ++ others in
-      let here : Tells h (version_in versions) ((at, e) ∷ rest) (Some m) =
+      let here : Tells h (version_in versions) ((at, e) ∷ (events_from (at + 1) (drop at h) t ++ others)) (Some m) =
       inl (sym a, subst (λ x. IsWrongAt h (version_in versions) e x m.found) (sym b) (subst (λ x. IsWrongAt h (version_in versions) e key x) (sym c) wrong)) in
       on.told others (Some m) (subst (λ (l : List (ℕ × Event)). Tells h (version_in versions) (l ++ others) (Some m)) (sym n.3) here)
 
@@ -134,11 +127,10 @@ module _ (h : List Event) (t : ℕ) (start : ℕ → ℕ) (versions : BTreeMap �
 -- the next place of a chain is later, or there is none
 pub first_later : (t n : ℕ) (h : List Event) → (first_at t n h ≡ 0) ⊎ (n ≤ first_at t n h)
 first_later t n [] = inl refl
-first_later t n (e ∷ h) = by_test (cases_Bool (eqb (actor e) t)) (first_later t (n + 1) h)
-  where
-    by_test : (eqb (actor e) t ≡ true) ⊎ (eqb (actor e) t ≡ false) → (first_at t (n + 1) h ≡ 0) ⊎ (n + 1 ≤ first_at t (n + 1) h) → (first_at t n (e ∷ h) ≡ 0) ⊎ (n ≤ first_at t n (e ∷ h))
-    by_test (inl yes') rest = let f = ap (λ b. cond b n (first_at t (n + 1) h)) yes' in inr (omega arith)
-    by_test (inr no') rest = let f = ap (λ b. cond b n (first_at t (n + 1) h)) no' in elim rest [ inl z ↦ inl (f ∙ z) | inr l ↦ inr (omega arith) ]
+first_later t n (e ∷ h) = elim (cases_Bool (eqb (actor e) t)) [
+  | inl yes' ↦ let f = ap (λ b. cond b n (first_at t (n + 1) h)) yes' in inr (omega arith)
+  | inr no' ↦ let f = ap (λ b. cond b n (first_at t (n + 1) h)) no' in elim (first_later t (n + 1) h) [ inl z ↦ inl (f ∙ z) | inr l ↦ inr (omega arith) ]
+]
 
 -- how many places are left from one on
 abbrev pub places_left : List Event → ℕ → ℕ
@@ -161,11 +153,9 @@ module _ (h : List Event) (t : ℕ) (start : ℕ → ℕ) (versions : BTreeMap �
   fewer_places next are =
       let w = next_event h t start versions at on some in
       let e = w.0 in
-      let within = place_within in
       let l : 0 < at = elim (cases_lt 0 at) [ inl less ↦ less | inr none ↦ absurd (some (omega arith)) ] in
-      let is = are.1 at e l w.1.0 in
       let here : places_left h at ≡ length h + 1 - at = ap (λ b. cond b 0 (length h + 1 - at)) (ne_eqb at 0 some) in
-      by_next (get_or next at 0) here within (elim (first_later (actor e) (at + 1) (drop at h)) [ inl z ↦ inl (is ∙ z) | inr m ↦ inr (omega arith) ])
+      by_next (get_or next at 0) here place_within (elim (first_later (actor e) (at + 1) (drop at h)) [ inl z ↦ inl ((are.1 at e l w.1.0) ∙ z) | inr m ↦ inr (omega arith) ])
     where
       by_next : (x : ℕ) → places_left h at ≡ length h + 1 - at → at ≤ length h → (x ≡ 0) ⊎ (at + 1 ≤ x) → places_left h x < places_left h at
       by_next x here within (inl z) = let f : places_left h x ≡ 0 = ap (λ b. cond b 0 (length h + 1 - x)) (eq-eqb x 0 z) in omega arith
@@ -229,15 +219,6 @@ module _ (h : List Event) where
           ],
         ),
       )
-
--- an event stands at each place up to the length
-pub none_past : {A : Type 0} (xs : List A) (i : ℕ) → slice_get xs i ≡ None → length xs ≤ i
-none_past [] i e = omega arith
-none_past (x ∷ xs) zero e = cc
-none_past (x ∷ xs) (suc i) e = let l = none_past xs i e in omega arith
-
-pub there_is_one : (h : List Event) (b : ℕ) → b < length h → None ≡ at_place h (b + 1) → ⊥
-there_is_one h b l e = let f : b + 1 ≡ suc b = omega arith in let m = none_past h b (sym (e ∙ ap (at_place h) f)) in omega arith
 
 -- a number is among the first n of a list, or not
 among_or_not : (order : List ℕ) (t n : ℕ) → ((i : ℕ) × (i < n) × (get_or order i 0 ≡ t)) ⊎ ((i : ℕ) → i < n → get_or order i 0 ≢ t)

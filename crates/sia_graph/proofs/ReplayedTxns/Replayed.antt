@@ -1,6 +1,5 @@
 -- What a replay one event at a time tells is said of the serial history.
-use Rattle.std.proofs.Common.{◌≡◌, inl, inr, ℕ, ◌+◌, ◌<◌, List, [], ◌∷◌, ◌++◌, length, get_or, drop, slice_get, Option, Some, None, ap, sym, ◌∙◌, refl, subst, arith, append_assoc, append-nil}
-use Rattle.std.specs.Prelude.{MatchOption}
+use Rattle.std.proofs.Common.{◌≡◌, inl, inr, ℕ, ◌+◌, ◌<◌, List, [], ◌∷◌, ◌++◌, length, get_or, drop, slice_get, Option, Some, None, ap, sym, ◌∙◌, refl, subst, arith, append_assoc, append-nil, MatchOption}
 use Rattle.std.proofs.lemmas.Bool.{cases_lt}
 use Rattle.std.proofs.lemmas.List.{take_at, drop_more, length-append}
 use Rattle.std.proofs.lemmas.Option.{same_Some, slice_get_within}
@@ -52,8 +51,7 @@ module _ (h : List Event) where
     | inl less ↦ below i place e k less at
     | inr more ↦
         let same : i ≡ length pre + 0 = omega arith in
-        let here = get_right pre (x ∷ xs) 0 x refl in
-        let f : x ≡ (place, e) = same_Some x (place, e) (sym here ∙ ap (slice_get (pre ++ x ∷ xs)) (sym same) ∙ at) in
+        let f : x ≡ (place, e) = same_Some x (place, e) (sym (get_right pre (x ∷ xs) 0 x refl) ∙ ap (slice_get (pre ++ x ∷ xs)) (sym same) ∙ at) in
         let z : length pre ≡ i = omega arith in
         subst (λ n. IsRightAt h (pre ++ x ∷ xs) n e k) z
         (to_place h (pre ++ x ∷ xs) (length pre) (last_in pre) (last_at pre (x ∷ xs)) e k (subst (λ (y : ℕ × Event). IsRight h (last_in pre) y.1 k) f (right k)))
@@ -64,9 +62,7 @@ module _ (h : List Event) where
 
   all_below : (pre xs : List (ℕ × Event)) → IsRightBelow h (pre ++ xs) (length pre) → AllRight h (last_in pre) xs → (n : ℕ) → IsRightBelow h (pre ++ xs) n
   all_below pre [] below all n = λ i place e k l at.
-      let within = slice_get_within (pre ++ []) i (place, e) at in
-      let f = ap (length {A = ℕ × Event}) (append-nil pre) in
-      below i place e k (omega arith) at
+      below i place e k (omega (arith, slice_get_within (pre ++ []) i (place, e) at, ap (length {A = ℕ × Event}) (append-nil pre))) at
   all_below pre (x ∷ xs) below all n =
       subst (λ (l : List (ℕ × Event)). IsRightBelow h l n) (one_on pre xs x)
       (all_below (pre ++ x ∷ []) xs (moved_on pre xs x (below_more pre xs x below all.0)) (subst (λ (f : ℕ → ℕ). AllRight h f xs) (last_more pre x) all.1) n)

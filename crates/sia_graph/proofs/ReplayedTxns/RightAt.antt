@@ -1,6 +1,5 @@
 -- Whether an event of a replay is right at a key.
-use Rattle.std.proofs.Common.{◌≡◌, ◌≢◌, ◌⊎◌, inl, inr, ℕ, ◌+◌, ◌<◌, ◌≤◌, false, List, [], ◌∷◌, length, get_or, map, min, Option, Some, None, Result, Ok, Err, ltb, unwrap_or, ap, sym, ◌∙◌, refl, subst, arith}
-use Rattle.std.specs.Prelude.{All, Contains, IsTrue, ◌↔◌, MatchOption}
+use Rattle.std.proofs.Common.{◌≡◌, ◌≢◌, ◌⊎◌, inl, inr, ℕ, ◌+◌, ◌<◌, ◌≤◌, false, List, [], ◌∷◌, length, get_or, map, min, Option, Some, None, Result, Ok, Err, ltb, unwrap_or, ap, sym, ◌∙◌, refl, subst, arith, All, Contains, IsTrue, ◌↔◌, MatchOption, BTreeMap, nat_cmp, is_gt, is_ok}
 use Rattle.std.specs.List.Sorted.{IsStrictlyIncreasing, IsBinarySearchResult, IsSearchInRange}
 use Rattle.std.proofs.lemmas.Bool.{cases_lt, cases_eq, cases_order, ne_eqb, ltb-true, lt-ltb, le-ltb, eq-eqb}
 use Rattle.std.proofs.lemmas.List.{get_or-map, get_or_default, length-map}
@@ -10,11 +9,8 @@ use Rattle.sia_events.specs.declared.event.Event.{Event}
 use Rattle.sia_events.specs.Transactions.{Wrote, CommitsAt}
 use Rattle.sia_events.specs.Refusals.{IsWellFormed}
 use Rattle.sia_events.specs.Replay.{MayFollow}
-use Rattle.std.specs.BTreeMap.{BTreeMap}
 use Rattle.std.specs.BTreeMap.Range.{IsRangeOf}
 use Rattle.std.specs.declared.ops.Bound.TheVariants.{Included}
-use Rattle.std.specs.Ordering.{nat_cmp, is_gt}
-use Rattle.std.specs.Result.{is_ok}
 use Rattle.sia_events.specs.declared.event.Event.TheVariants.{Range, Write}
 use Rattle.sia_graph.specs.Replaying.{Agrees, IsRight, version_in}
 use Rattle.sia_graph.proofs.Shared.Facts.{commits_lt}
@@ -32,8 +28,7 @@ module _ (listed : List (ℕ × ℕ)) (up : IsStrictlyIncreasing (map (λ p. p.0
   pub before_key : (i k v : ℕ) (d : ℕ × ℕ) → i < length listed → k < (get_or listed i d).0 → (c : Contains listed (k, v)) → c.0 < i
   before_key i k v d l less c =
       let j = c.0 in
-      let f : get_or listed j d ≡ (k, v) = get_or_default listed j d (k, v) c.1 ∙ c.2 in
-      let g = ap (λ (p : ℕ × ℕ). p.0) f in
+      let g = ap (λ (p : ℕ × ℕ). p.0) (get_or_default listed j d (k, v) c.1 ∙ c.2) in
       elim (cases_order i j) [
         | inl same ↦ let h = ap (λ n. (get_or listed n d).0) same in absurd (omega arith)
         | inr (inl after) ↦ let m = keys_less i j d after c.1 in absurd (omega arith)

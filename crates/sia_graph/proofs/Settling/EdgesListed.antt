@@ -1,7 +1,6 @@
 -- A list of edges between ids, as a graph of the places of the ids: what is settled of the places is settled of the ids, and how
 -- the least sources are found.
-use Rattle.std.proofs.Common.{◌≡◌, ◌≢◌, ◌⊎◌, inl, inr, ℕ, zero, suc, ◌+◌, ◌-◌, ◌*◌, ◌<◌, ◌≤◌, Bool, List, [], length, get_or, ap, sym, ◌∙◌, subst, arith}
-use Rattle.std.specs.Prelude.{◌↔◌, All, AllPairs, Contains}
+use Rattle.std.proofs.Common.{◌≡◌, ◌≢◌, ◌⊎◌, inl, inr, ℕ, zero, suc, ◌+◌, ◌-◌, ◌*◌, ◌<◌, ◌≤◌, Bool, List, [], length, get_or, ap, sym, ◌∙◌, subst, arith, ◌↔◌, All, AllPairs, Contains}
 use Rattle.std.specs.List.Sorted.{IsNonDecreasingBy, IsStrictlyIncreasing}
 use Rattle.std.proofs.lemmas.Bool.{cases_eq, cases_lt}
 use Rattle.std.proofs.lemmas.List.{get_or_default, get_or_past}
@@ -94,10 +93,7 @@ module _ (ids : List ℕ) (up : IsStrictlyIncreasing ids) (edges : List Edge) (g
     list_stands = record {
       blocks = record { joins = λ a b s. let w = step_at a b s in (is_node a w.0, is_node b w.1); ascends = λ a b s first second. absurd (omega arith) };
       ascend = λ a b m n less.
-          let x = named_by a in
-          let y = named_by b in
-          let z = ids_less ids up a b less (node_within b n.0) in
-          omega arith;
+          omega (arith, named_by a, named_by b, ids_less ids up a b less (node_within b n.0));
       named = λ t. (
         (λ c. let p = place t c in (p.0, (is_node p.0 p.1, omega arith), named_by p.0 ∙ p.2)),
         (λ w. let l = node_within w.0 w.1.0 in (w.0, l, get_or_default ids w.0 t 0 l ∙ sym (named_by w.0) ∙ w.2)),

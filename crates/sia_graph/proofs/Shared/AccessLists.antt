@@ -1,9 +1,6 @@
 -- What a committed transaction saw and missed, as the lists of its number.
-use Rattle.std.proofs.Common.{◌≡◌, ◌⊎◌, inl, inr, ℕ, zero, suc, ◌-◌, ◌<◌, ◌≤◌, List, [], ◌∷◌, Some, length, get_or, sym, subst, arith}
+use Rattle.std.proofs.Common.{◌≡◌, ◌⊎◌, inl, inr, ℕ, ◌-◌, ◌≤◌, List, [], ◌∷◌, length, get_or, arith}
 use Rattle.std.specs.Prelude.{◌↔◌, ⊤, Contains}
-use Rattle.std.specs.List.{slice_get}
-use Rattle.std.proofs.lemmas.Option.{get_or_from_slice_get, slice_get-get_or}
-use Rattle.std.proofs.lemmas.List.Elements.{Contains-append_left, Contains-append_right}
 use Rattle.sia_events.specs.declared.event.Event.{Event}
 use Rattle.sia_events.specs.Refusals.{IsWellFormed}
 use Rattle.sia_index.specs.Lists.{joined}
@@ -17,35 +14,21 @@ use Rattle.sia_parts.specs.Sights.{Adds}
 use Rattle.sia_parts.proofs.Shared.Adding.{added_to_none}
 use Rattle.sia_graph.specs.Makers.{IsFirstMaker}
 use Rattle.sia_graph.specs.Passed.{IsHeldBy, IsOwnPassed, IsPassed}
-
--- a list of lists, by the lists that it has
-list_at : {A : Type 0} (lists : List (List A)) (i : ℕ) → i < length lists → (xs : List A) → slice_get lists i ≡ Some xs → get_or lists i [] ≡ xs
-list_at lists i below xs at = get_or_from_slice_get lists i xs [] at
-
--- what a list holds is in all of them together
-in_joined : {A : Type 0} (lists : List (List A)) (i : ℕ) (xs : List A) (x : A) → slice_get lists i ≡ Some xs → Contains xs x → Contains (joined lists) x
-in_joined [] i xs x at has = cc
-in_joined (ys ∷ lists) zero xs x at has = let same : ys ≡ xs = cc in Contains-append_left ys (joined lists) x (subst (λ l. Contains l x) (sym same) has)
-in_joined (ys ∷ lists) (suc i) xs x at has = Contains-append_right ys (joined lists) x (in_joined lists i xs x at has)
+use Rattle.sia_index.proofs.VersionRows.StableDeal.{joined_has}
+use Rattle.sia_parts.proofs.EdgeRows.AccessRows.{at_number, missed_within, of_number, saw_within}
 
 pub none_missed : (a : Accesses) → length (joined a.missed) ≡ 0 → (i j : ℕ) → ¬ Missed a i j
-none_missed a none i j m = let has = in_joined a.missed i m.1.0 m.0 m.1.1 m.1.2 in let l = has.1 in omega arith
+none_missed a none i j m = omega (arith, (joined_has a.missed i m.0 (of_number a.missed i m.0 m.1)).1)
 
 module _ (h : List Event) (a : Accesses) (are : AreAccesses h (λ _. ⊤) a) (i t : ℕ) (at : IsCommittedAt h i t) where
-  pub saw_inside : i < length a.saw
-  saw_inside = let long = are.saw_long at.0 at.1 in let below = at.2 in omega arith
-
-  pub missed_inside : i < length a.missed
-  missed_inside = let long = are.missed_long at.0 at.1 in let below = at.2 in omega arith
-
   pub saw_is : (q : ℕ) → Contains (get_or a.saw i []) q ↔ SawPosition a i q
-  saw_is q = grind (arith, slice_get-get_or, saw_inside, list_at)
+  saw_is q = (at_number a.saw i (saw_within h (λ _. ⊤) a are i t at) q, of_number a.saw i q)
 
   pub saw_position : (q : ℕ) → SawPosition a i q → HasPosition h q
   saw_position q s = let w = are.saw i q s in (w.3.version.0, w.3.version.1)
 
   pub missed_is : (miss : RangeMiss) → Contains (get_or a.missed i []) miss ↔ HasMiss a i miss
-  missed_is miss = grind (arith, slice_get-get_or, missed_inside, list_at)
+  missed_is miss = (at_number a.missed i (missed_within h (λ _. ⊤) a are i t at) miss, of_number a.missed i miss)
 
   -- any list of these misses holds the keys that were missed
   pub missed_held : (misses : List RangeMiss) → ((miss : RangeMiss) → Contains misses miss ↔ Contains (get_or a.missed i []) miss) → (j : ℕ) → IsHeldBy misses j ↔ Missed a i j
@@ -58,8 +41,7 @@ module _ (h : List Event) (a : Accesses) (are : AreAccesses h (λ _. ⊤) a) (i 
   few_missed wf miss has =
       let some = are.some i miss has in
       let w = are.missed i (miss.to - 1) (miss, has, omega arith, omega arith) in
-      let few = few_keys h wf (miss.to - 1) w.1 w.3 in
-      omega arith
+      omega (arith, few_keys h wf (miss.to - 1) w.1 w.3)
 
   -- so what was cut of them are the keys that were passed over
   module _ (misses : List RangeMiss) (same : (miss : RangeMiss) → Contains misses miss ↔ Contains (get_or a.missed i []) miss) (keys : List ℕ) (firsts : (j : ℕ) → Contains keys j ↔ IsFirstMaker h j i) where

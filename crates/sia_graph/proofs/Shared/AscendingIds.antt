@@ -1,6 +1,5 @@
 -- Positions of ids in a sorted list.
-use Rattle.std.proofs.Common.{◌≡◌, inl, inr, ℕ, zero, suc, ◌<◌, ◌≤◌, true, false, List, length, get_or, ltb, ◌∙◌, arith}
-use Rattle.std.specs.Prelude.{Contains}
+use Rattle.std.proofs.Common.{◌≡◌, inl, inr, ℕ, zero, suc, ◌<◌, ◌≤◌, true, false, List, length, get_or, ltb, ◌∙◌, arith, Contains}
 use Rattle.std.specs.List.Sorted.{IsStrictlyIncreasing, IsNonDecreasingBy, IsPartitionPoint}
 use Rattle.std.proofs.lemmas.Bool.{cases_lt, cases_order, ltb-true, ltb-false}
 use Rattle.std.proofs.lemmas.List.{get_or_default}
@@ -24,9 +23,7 @@ module _ (ids : List ℕ) (up : IsStrictlyIncreasing ids) where
   pub ids_rise : IsNonDecreasingBy (λ x. x) ids
   ids_rise i j d l b =
       let e = get_or_default ids i d 0 (omega arith) in
-      let f = get_or_default ids j d 0 b in
-      let m = ids_no_less i j l b in
-      omega arith
+      omega (arith, get_or_default ids j d 0 b, ids_no_less i j l b)
 
   pub found_position : (t i : ℕ) → IsPartitionPoint (λ y. ltb y t ≡ true) (λ y. ltb y t ≡ false) ids i → Contains ids t → (i < length ids) × (get_or ids i 0 ≡ t)
   found_position t i point c =

@@ -1,6 +1,5 @@
 -- Relations with the same ways settle alike: an order that keeps the one keeps the other, and the same set is stuck.
-use Rattle.std.proofs.Common.{◌≢◌, ◌⊎◌, inl, inr, ℕ, zero, suc, List, [], ◌∷◌, ◌++◌, subst, arith}
-use Rattle.std.specs.Prelude.{Contains, AllPairs}
+use Rattle.std.proofs.Common.{◌≢◌, ◌⊎◌, inl, inr, ℕ, zero, suc, List, [], ◌∷◌, ◌++◌, subst, arith, Contains, AllPairs}
 use Rattle.std.proofs.lemmas.List.Elements.{Contains-append_left, Contains-append_right, Contains-append_cases}
 use Rattle.sia_events.specs.Closures.{HaveSameClosure}
 use Rattle.sia_events.specs.Replay.{StandsBefore, Keeps}

@@ -1,6 +1,5 @@
 -- How many elements of a list pass a test.
-use Rattle.std.proofs.Common.{◌≡◌, ℕ, zero, suc, ◌+◌, ◌<◌, ◌≤◌, Bool, true, false, cond, List, [], ◌∷◌, slice_get, Some, ap, ◌∙◌, arith}
-use Rattle.std.specs.List.{count_by}
+use Rattle.std.proofs.Common.{◌≡◌, ℕ, zero, suc, ◌+◌, ◌<◌, ◌≤◌, Bool, true, false, cond, List, [], ◌∷◌, slice_get, Some, ap, ◌∙◌, arith, count_by}
 use Rattle.std.proofs.lemmas.List.Sums.{sum_by-cons}
 use Rattle.std.proofs.lemmas.Option.{same_Some}
 
@@ -21,9 +20,8 @@ module _ {A : Type 0} (p q : A → Bool) (under : (x : A) → q x ≡ true → p
   counts_fewer [] = omega arith
   counts_fewer (x ∷ xs) =
       let a = sum_by-cons (λ y. cond (p y) 1 0) x xs in
-      let b = sum_by-cons (λ y. cond (q y) 1 0) x xs in
       let l = first_fewer (count_by q xs) (count_by p xs) x (counts_fewer xs) in
-      omega arith
+      omega (arith, sum_by-cons (λ y. cond (q y) 1 0) x xs)
 
   pub one_fewer : (xs : List A) (i : ℕ) (y : A) → slice_get xs i ≡ Some y → p y ≡ true → q y ≡ false → count_by q xs < count_by p xs
   one_fewer [] i y at a b = cc

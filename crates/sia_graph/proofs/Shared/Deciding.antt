@@ -6,15 +6,10 @@ use Rattle.sia_events.specs.declared.event.Event.{Event}
 use Rattle.sia_events.specs.declared.event.Event.TheVariants.{Write}
 use Rattle.sia_events.specs.Places.{at_place}
 use Rattle.sia_events.proofs.Shared.Decisions.{Decided, first_below}
-
-pub three_decided : (P Q R : Type 0) → Decided P → Decided Q → Decided R → Decided (P × Q × R)
-three_decided P Q R p q r = grind arith
+pub use Rattle.sia_events.proofs.Shared.Decisions.{all_three as three_decided, denied as not_decided}
 
 pub either_decided : (P Q : Type 0) → Decided P → Decided Q → Decided (P ⊎ Q)
 either_decided P Q p q = grind arith
-
-pub not_decided : (P : Type 0) → Decided P → Decided (¬ P)
-not_decided P p = grind arith
 
 pub le_decided : (m n : ℕ) → Decided (m ≤ n)
 le_decided m n = elim (cases_lt n m) [ inl less ↦ inr (λ l. omega arith) | inr more ↦ inl more ]

@@ -1,23 +1,20 @@
 -- The two least of those who made or saw a version up to a position.
 -- What is at hand of those who made, saw or passed over versions, and the edges to a transaction that this tells.
-use Rattle.std.proofs.Common.{◌≡◌, ◌⊎◌, inl, inr, ℕ, ◌<◌, ◌≤◌, List, Option, Some, length, get_or, set, refl, ap, sym, subst, ◌∙◌, arith, ◌≢◌, Bool, min}
+use Rattle.std.proofs.Common.{◌≡◌, ◌⊎◌, inl, inr, ℕ, ◌<◌, ◌≤◌, List, Option, Some, length, get_or, set, refl, ap, sym, subst, ◌∙◌, arith, ◌≢◌, Bool, min, get_or-set_same, get_or-set_other, length-set}
 use Rattle.std.specs.Prelude.{◌↔◌, MatchOption, ⊤, Contains}
 use Rattle.std.proofs.lemmas.Bool.{cases_eq, cases_lt}
-use Rattle.std.proofs.lemmas.List.{get_or-set_same, get_or-set_other, length-set}
-use Rattle.std.proofs.lemmas.Option.{slice_get-get_or, slice_get_within}
 use Rattle.sia_events.specs.declared.event.Event.{Event}
 use Rattle.sia_events.specs.NarrowDependencies.{CommitsVersion, IsNextVersion}
 use Rattle.sia_events.specs.Refusals.{IsWellFormed}
-use Rattle.sia_events.proofs.Worked.OneList.{one_list_by}
 use Rattle.sia_events.proofs.Writing.WellFormed.{one_commit}
-use Rattle.sia_index.specs.Positions.{ArePositions, HasPosition, IsAtPosition, IsVersion, AreAllVersions}
+use Rattle.sia_index.specs.Positions.{ArePositions, HasPosition, IsAtPosition, AreAllVersions}
 use Rattle.sia_index.specs.declared.info.KeyVersion.{KeyVersion}
 use Rattle.sia_graph.specs.Twos.{AreTwosOf, HaveOneKey, IsUpTo, IsWith, IsBeforeVersion, IsLeastNumber, IsLeftMaker, IsLeftReader, IsLeftSource, IsTwo}
 use Rattle.sia_graph.specs.declared.twos.Two.{Two}
 use Rattle.sia_graph.proofs.Shared.LeastNumbers.{two_same, two_with, least_join, least_none, least_same, other_of}
 use Rattle.sia_graph.proofs.Shared.Numbered.{commits_at}
 use Rattle.sia_graph.proofs.Shared.PositionEdges.{positions_most, made_commits, rw_positions, wr_positions, ww_positions}
-use Rattle.sia_parts.proofs.EdgeRows.PositionOrder.{by_commit as commits_less, one_version as one_at}
+use Rattle.sia_parts.proofs.EdgeRows.PositionOrder.{by_commit as commits_less, one_version as one_at, position_below}
 use Rattle.sia_events.specs.Lists.{ListsAscending}
 use Rattle.sia_index.proofs.Shared.KeyChains.{key_number}
 use Rattle.sia_index.specs.Info.{IsKeyAt}
@@ -59,9 +56,8 @@ module _ (h : List Event) (wf : IsWellFormed h) where
       let w = before.0 in
       let x = one.0 in
       let key = same_key p q x v one.2 at one in
-      let earlier = commits_less h p q x v one.2 at key less in
       let same : x.key ≡ w.key = key ∙ sym before.2 in
-      (positions_most h p b x w one.2 before.1 same (low x key earlier before.4 one.2), (x, w, one.2, before.1, same))
+      (positions_most h p b x w one.2 before.1 same (low x key (commits_less h p q x v one.2 at key less) before.4 one.2), (x, w, one.2, before.1, same))
     where
       low : (x : KeyVersion) → x.key ≡ v.key → x.commit < v.commit → IsNextVersion h v.key before.0.commit v.txn → IsAtPosition h p x → x.commit ≤ before.0.commit
       low x key earlier next is_at = elim (cases_lt before.0.commit x.commit) [
@@ -113,17 +109,7 @@ module _ (h : List Event) (wf : IsWellFormed h) where
 
 -- so many positions are those of one list
 pub positions_below : (h : List Event) (count q : ℕ) → ArePositions h count → HasPosition h q → q < count
-positions_below h count q are has =
-    let at = has.1 in
-    let same = one_list_by _ (IsVersion h) at.0 are.0 at.1 are.1 in
-    let l = slice_get_within at.0 q has.0 at.2 in
-    let f = ap (length {A = KeyVersion}) same in
-    omega arith
-
-pub below_positions : (h : List Event) (count q : ℕ) → ArePositions h count → q < count → HasPosition h q
-below_positions h count q are l =
-    let d : KeyVersion = record { key = 0; commit = 0; txn = 0 } in
-    (get_or are.0 q d, (are.0, are.1, slice_get-get_or are.0 q d (omega arith)))
+positions_below h count q are has = position_below h count q has.0 are has.1
 
 -- blocks are over a key, or nobody passed over it
 pub key_within : (h : List Event) (a : Accesses) (size : ℕ) → IsSizeFor size h a → (j k : ℕ) → IsKeyAt h j k → (j < size) ⊎ ((r : ℕ) → ¬ Missed a r j)
@@ -189,18 +175,14 @@ module _ (h : List Event) (wf : IsWellFormed h) (a : Accesses) (left : List Bool
     no_own : (r t : ℕ) → IsCommittedAt h r t → t ≢ u → r ≢ me
     no_own r t at other same = other (one_txn_at h me t u (subst (λ n. IsCommittedAt h n t) same at) number)
 
-    key_of : (p q : ℕ) (v w : KeyVersion) → IsAtPosition h p v → IsAtPosition h q w → HaveOneKey h p q → v.key ≡ w.key
-    key_of p q v w at other one = ap (λ (x : KeyVersion). x.key) (one_at h p v one.0 at one.2) ∙ one.4 ∙ ap (λ (x : KeyVersion). x.key) (one_at h q one.1 w one.3 other)
-
     of_made : (q r : ℕ) → Contains made q → OfMade h a left me q r → IsLeftSource h left me r
     of_made q r c (inl m, other) =
         let v = (lists.each q).0 c in
         let x = m.3.1 in
-        let key = key_of m.0 q x v.0 m.3.2 v.1 m.2 in
+        let key = same_key h wf m.0 q x v.0 m.3.2 v.1 m.2 in
         let less : m.0 < q = elim (cases_eq m.0 q) [
           | inl same ↦
-              let e = one_at h q x v.0 (subst (λ p. IsAtPosition h p x) same m.3.2) v.1 in
-              absurd (other (one_number h r me u (subst (IsCommittedAt h r) (ap (λ (y : KeyVersion). y.txn) e ∙ v.3) m.3.3) number))
+              absurd (other (one_number h r me u (subst (IsCommittedAt h r) (ap (λ (y : KeyVersion). y.txn) (one_at h q x v.0 (subst (λ p. IsAtPosition h p x) same m.3.2) v.1) ∙ v.3) m.3.3) number))
           | inr differ ↦ let l = m.1 in omega arith
         ] in
         let edge = (ww_positions h wf versions all x.txn u v.0.key).1 (m.0, q, (x, m.3.2, key, refl, m.3.4), (v.0, v.1, refl, v.3, v.2), less) in
@@ -211,7 +193,7 @@ module _ (h : List Event) (wf : IsWellFormed h) (a : Accesses) (left : List Bool
         let t = w.0 in
         let x = s.2.0 in
         let edge = (rw_positions h wf versions all a are t u v.0.key).1
-        (differs r t w.3.txn other, q, (v.0, v.1, refl, v.3, v.2), inl (s.0, (r, s.3.1, w.3.txn, x, s.2.2, key_of s.0 q x v.0 s.2.2 v.1 s.2), s.1)) in
+        (differs r t w.3.txn other, q, (v.0, v.1, refl, v.3, v.2), inl (s.0, (r, s.3.1, w.3.txn, x, s.2.2, same_key h wf s.0 q x v.0 s.2.2 v.1 s.2), s.1)) in
         (s.3.0, t, u, w.3.txn, number, (record { src = t; kind = Rw; dst = u; key = v.0.key }, edge, refl, refl))
     of_made q r c (inr (inr p), other) =
         let v = (lists.each q).0 c in
@@ -223,11 +205,10 @@ module _ (h : List Event) (wf : IsWellFormed h) (a : Accesses) (left : List Bool
 
     of_seen : (q r : ℕ) → Contains saw q → OfSeen h left me q r → IsLeftSource h left me r
     of_seen q r c (m, other) =
-        let s = (sees q).0 c in
         let y = m.2.1 in
         let x = m.3.1 in
-        let key = key_of m.0 q x y m.3.2 m.2.3 m.2 in
-        let edge = (wr_positions h wf versions all a are x.txn u y.key).1 (differs r x.txn m.3.3 other, m.0, q, (x, m.3.2, key, refl, m.3.4), (me, s, number, y, m.2.3, refl), m.1) in
+        let key = same_key h wf m.0 q x y m.3.2 m.2.3 m.2 in
+        let edge = (wr_positions h wf versions all a are x.txn u y.key).1 (differs r x.txn m.3.3 other, m.0, q, (x, m.3.2, key, refl, m.3.4), (me, (sees q).0 c, number, y, m.2.3, refl), m.1) in
         (m.3.0, x.txn, u, m.3.3, number, (record { src = x.txn; kind = Wr; dst = u; key = y.key }, edge, refl, refl))
 
     from_edge : (r t k : ℕ) → IsLeftIn left r → IsCommittedAt h r t → (kind : Kind) → EdgeOfKind h kind t u k → OfEither h a left me made saw r
@@ -253,12 +234,10 @@ module _ (h : List Event) (wf : IsWellFormed h) (a : Accesses) (left : List Bool
           elim w.3 [
             | inl x ↦
                 let s = x.1 in
-                let his = one_number h s.0 r t s.2 at in
-                (inr (inl (x.0, x.2, (s.3, n.0, s.4, n.1, s.5 ∙ sym n.2), (is, subst (λ i. SawPosition a i x.0) his s.1))), other)
+                (inr (inl (x.0, x.2, (s.3, n.0, s.4, n.1, s.5 ∙ sym n.2), (is, subst (λ i. SawPosition a i x.0) (one_number h s.0 r t s.2 at) s.1))), other)
             | inr x ↦
                 let p = x.1 in
-                let his = one_number h x.0 r t p.txn at in
-                (inr (inr (n.0, n.1, p.key.0, subst (IsKeyAt h p.key.0) (sym n.2) p.key.1, is, subst (λ i. Missed a i p.key.0) his p.key.2)), other)
+                (inr (inr (n.0, n.1, p.key.0, subst (IsKeyAt h p.key.0) (sym n.2) p.key.1, is, subst (λ i. Missed a i p.key.0) (one_number h x.0 r t p.txn at) p.key.2)), other)
           ],
         )
 

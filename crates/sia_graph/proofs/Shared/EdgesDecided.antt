@@ -25,8 +25,7 @@ module _ (Good : ℕ → Type 0) (decide : (v : ℕ) → Decided (Good v)) (k : 
   listed_decided listed = elim (element_decided (λ p. (p.0 ≡ k) × Good p.1) (λ p. both (p.0 ≡ k) (Good p.1) (cases_eq p.0 k) (decide p.1)) listed) [
     | inl w ↦
         let p = w.1 in
-        let here : p.0 ≡ k = w.3.0 in
-        let whole : ◌≡◌ {A = ℕ × ℕ} p (k, p.1) = λ i. (here i, p.1) in
+        let whole : ◌≡◌ {A = ℕ × ℕ} p (k, p.1) = λ i. (w.3.0 i, p.1) in
         inl (p.1, (w.0, slice_get_within listed w.0 p w.2, get_or_from_slice_get listed w.0 p (k, p.1) w.2 ∙ whole), w.3.1)
     | inr none ↦ inr (λ c. none (c.1.0, (k, c.0), slice_get-get_or listed c.1.0 (k, c.0) c.1.1 ∙ ap Some c.1.2, (refl, c.2)))
   ]

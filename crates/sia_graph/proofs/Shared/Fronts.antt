@@ -8,7 +8,8 @@ use Rattle.sia_events.specs.Lists.{Precedes}
 use Rattle.sia_parts.specs.declared.finding.Edge.{Edge}
 use Rattle.sia_graph.specs.Orders.{Leads, IsKeepingOrder, IsLeastOrder}
 use Rattle.sia_graph.specs.Fronts.{IsFront, IsNoLater}
-use Rattle.sia_graph.proofs.Shared.Positions.{Stands, contains_stands, stands_contains, get_left, get_right, get_cases, get_within, only_one, one_position, once_from_positions}
+use Rattle.sia_graph.proofs.Shared.Positions.{Stands, contains_stands, stands_contains, get_right, get_cases, only_one, one_position, once_from_positions}
+use Rattle.sia_events.proofs.LogRows.RowsRead.{get_less, get_more}
 
 -- what ys goes on with isn't less than t
 abbrev GoesOnFrom : ℕ → List ℕ → Type 0
@@ -56,28 +57,24 @@ module _ (M : ℕ → Type 0) (E : Edge → Type 0) where
         least u (
           (keeping.0.each u).0 (stands_contains (front ++ u ∷ more) u (length front + 0, here)),
           λ s.
-              let e : s.0 ≡ length front + 0 = one u s.0 (length front + 0) (get_left front (u ∷ more) s.0 u s.1) here in
-              let l = slice_get_within front s.0 u s.1 in
-              absurd (omega arith),
+              let e : s.0 ≡ length front + 0 = one u s.0 (length front + 0) (get_more front (u ∷ more) s.0 u s.1) here in
+              absurd (omega (arith, slice_get_within front s.0 u s.1)),
           λ s leads.
               let b = keeping.1 s u leads in
               let e : b.1 ≡ length front + 0 = one u b.1 (length front + 0) b.4 here in
-              (b.0, get_within front (u ∷ more) b.0 s (omega arith) b.3),
+              (b.0, get_less front (u ∷ more) b.0 s (omega arith) b.3),
         ),
       )
 
   pub front_more : (front : List ℕ) (t : ℕ) → IsFront M E front → IsReady front t → ((u : ℕ) → IsReady front u → t ≤ u) → IsFront M E (front ++ t ∷ [])
   front_more front t f ready least = record {
-    members = grind (arith, get_cases, only_one, get_left, slice_get_within, no_later_more, goes_on_ready);
+    members = grind (arith, get_cases, only_one, get_more, slice_get_within, no_later_more, goes_on_ready);
     once = λ u i j a b. by_cases u i j (get_cases front (t ∷ []) i u a) (get_cases front (t ∷ []) j u b);
     closed = λ s u i leads at. elim (get_cases front (t ∷ []) i u at) [
-      | inl here ↦ let w = f.closed s u i leads here in (w.0, w.1, get_left front (t ∷ []) w.0 s w.2)
+      | inl here ↦ let w = f.closed s u i leads here in (w.0, w.1, get_more front (t ∷ []) w.0 s w.2)
       | inr w ↦
-          let same = only_one u t w.0 w.2 in
-          let p = w.1 in
-          let from = ready.2 s (subst (λ x. Leads E s x) (sym same.1) leads) in
-          let l = slice_get_within front from.0 s from.1 in
-          (from.0, omega arith, get_left front (t ∷ []) from.0 s from.1)
+          let from = ready.2 s (subst (λ x. Leads E s x) (sym (only_one u t w.0 w.2).1) leads) in
+          (from.0, omega (arith, w.1, slice_get_within front from.0 s from.1), get_more front (t ∷ []) from.0 s from.1)
     ];
     no_later = λ order keeping. no_later_more front order t (f.no_later order keeping)
         (λ rest e. goes_on_ready front rest t ready least (subst (λ l. IsKeepingOrder M E l) e keeping));
@@ -89,9 +86,7 @@ module _ (M : ℕ → Type 0) (E : Edge → Type 0) where
       by_cases u i j (inl a) (inr b) = absurd (ready.1 (i, a ∙ ap Some (sym (only_one u t b.0 b.2).1)))
       by_cases u i j (inr a) (inl b) = absurd (ready.1 (j, b ∙ ap Some (sym (only_one u t a.0 a.2).1)))
       by_cases u i j (inr a) (inr b) =
-          let x = (only_one u t a.0 a.2).0 in
-          let y = (only_one u t b.0 b.2).0 in
-          omega arith
+          omega (arith, (only_one u t a.0 a.2).0, (only_one u t b.0 b.2).0)
 
   pub front_none : IsFront M E []
   front_none = grind arith

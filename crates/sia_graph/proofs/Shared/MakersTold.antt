@@ -1,6 +1,5 @@
 -- The numbers of makers, by what an index answers.
-use Rattle.std.proofs.Common.{◌≡◌, ℕ, Bool, eqb, ◌<◌, ◌≤◌, List, Option, Some, None, ap, sym, subst, arith}
-use Rattle.std.specs.Prelude.{◌↔◌, IsTrue, MatchOption}
+use Rattle.std.proofs.Common.{◌≡◌, ℕ, Bool, eqb, ◌<◌, ◌≤◌, List, Option, Some, None, ap, sym, subst, arith, ◌↔◌, IsTrue, MatchOption}
 use Rattle.std.specs.Option.{option_eq}
 use Rattle.std.proofs.lemmas.Bool.{cases_lt, eq-eqb, eqb-true, false≢true}
 use Rattle.std.proofs.lemmas.Option.{none-some, same_Some}
@@ -37,8 +36,7 @@ module _ (h : List Event) (q : ℕ) (v : KeyVersion) (at : IsAtPosition h q v) w
   pub none_next : NoneBehind h v.key v.commit → (i : ℕ) → ¬ IsNextMaker h q i
   none_next none i m =
       let next = subst (λ (x : KeyVersion). IsNextVersion h x.key x.commit m.2) (one_at h q m.0 v m.1 at) m.3 in
-      let l = none m.2 next.0 next.1 in
-      omega arith
+      omega (arith, none m.2 next.0 next.1)
 
   -- who made the version at the next position
   pub next_told : (p : ℕ) (w : KeyVersion) → IsAtPosition h p w → 0 < w.commit → IsNextVersion h v.key v.commit w.txn → (i : ℕ) → IsMaker h p i ↔ IsNextMaker h q i
@@ -71,15 +69,12 @@ module _ (h : List Event) (q : ℕ) (v : KeyVersion) (at : IsAtPosition h q v) w
           let after : IsNextVersion h v.key m.3 v.txn = subst (λ (x : KeyVersion). IsNextVersion h x.key m.3 x.txn) is m.5 in
           let under : m.3 < v.commit = subst (λ (x : KeyVersion). m.3 < x.commit) is m.6 in
           let low = same_before w.commit m.3 m.2 made next less cv under in
-          let some : 0 < m.3 = above m.2 m.3 cv in
+          let some : 0 < m.3 = commits_above h m.2 m.3 cv.1 in
           let wcv = subst (λ k. CommitsVersion h k w.txn w.commit) key (commits_at h p w atw (omega arith)) in
           let high = same_before m.3 w.commit w.txn made after under wcv less in
           let same : m.3 ≡ w.commit = omega arith in
           (w, atw, omega arith, subst (IsCommittedAt h i) (one_committer h m.2 w.txn w.commit (subst (λ c. CommitsVersion h v.key m.2 c) same cv).1 wcv.1) m.7)),
     )
-      where
-        above : (t c : ℕ) → CommitsVersion h v.key t c → 0 < c
-        above t c made = commits_above h t c made.1
 
 -- who made the next version after version 0 of a key made its first
 pub first_told : (h : List Event) (j q : ℕ) (v : KeyVersion) → IsAtPosition h q v → IsKeyAt h j v.key → v.commit ≡ 0 → (i : ℕ) → IsNextMaker h q i ↔ IsFirstMaker h j i
@@ -88,6 +83,5 @@ first_told h j q v at key none i = (
       let next = subst (λ (x : KeyVersion). IsNextVersion h x.key x.commit m.2) (one_at h q m.0 v m.1 at) m.3 in
       (v.key, m.2, key, subst (λ c. IsNextVersion h v.key c m.2) none next, m.4)),
   (λ m.
-      let next = subst (λ k. IsNextVersion h k 0 m.1) (one_key_at h j m.0 v.key m.2 key) m.3 in
-      (v, at, m.1, subst (λ c. IsNextVersion h v.key c m.1) (sym none) next, m.4)),
+      (v, at, m.1, subst (λ c. IsNextVersion h v.key c m.1) (sym none) (subst (λ k. IsNextVersion h k 0 m.1) (one_key_at h j m.0 v.key m.2 key) m.3), m.4)),
 )

@@ -28,9 +28,8 @@ module _ (h : List Event) (ps : List Pivot) (pivots : ArePivots h ps) where
       let d : Pivot = record { txn = 0; ins = []; outs = []; firsts = [] } in
       let at = entry_of t d ((first.2, first.3), (u, first.0)) in
       let p = get_or ps at.0 d in
-      let lists = (pivots.neighbours at.0 d at.1).firsts in
       let f = subst (λ x. IsFirst h x u) (sym at.2) first in
-      none_listed (λ x. x ∷ []) (λ x. IsFirst h p.txn x) p.firsts lists (none at.0 d at.1) u f
+      none_listed (λ x. x ∷ []) (λ x. IsFirst h p.txn x) p.firsts ((pivots.neighbours at.0 d at.1).firsts) (none at.0 d at.1) u f
 
   none_first : NoFirst h → All (λ p. p.firsts ≡ []) ps
   none_first none k d l =

@@ -147,8 +147,7 @@ module _ (h : List Event) (wf : IsWellFormed h) where
     -- u sees each transaction that commits before one whose commit it sees
     sees_earlier : (t v u : ℕ) → Sees h u v → CommitsBefore h t v → Sees h u t
     sees_earlier t v u sees before =
-        let l = commits_lt h wf t v before.0 sees.1 before.2 sees.3 before in
-        (sees.0, before.0, sees.2, before.2, omega arith)
+        (sees.0, before.0, sees.2, before.2, omega (arith, commits_lt h wf t v before.0 sees.1 before.2 sees.3 before))
 
     pub ww_sees : (t u k : ℕ) → WwEdge h t u k → Sees h u t
     ww_sees t u k e =

@@ -13,15 +13,20 @@ use Rattle.sia_index.specs.declared.info.KeyVersion.{KeyVersion}
 use Rattle.sia_parts.specs.Accesses.{AreAccesses, IsLook, IsPassing, SawPosition}
 use Rattle.sia_parts.specs.declared.accesses.Accesses.{Accesses}
 use Rattle.sia_parts.proofs.Auditing.AsOf.{commit_positive}
-use Rattle.sia_parts.proofs.EdgeRows.PositionOrder.{by_commit as commits_less, by_commit_from as commits_most, by_position as positions_less, is_version, one_version as one_at, position_of}
+use Rattle.sia_parts.proofs.EdgeRows.PositionOrder.{ascends_at, by_commit as commits_less, by_commit_from as commits_most, by_position as positions_less, one_version as one_at, position_of}
 use Rattle.sia_parts.proofs.EdgeRows.Sources.{look_of_rw as rw_look, look_of_wr as wr_look, rw_from_look as rw_of_look, wr_from_look as wr_of_look}
 use Rattle.sia_parts.proofs.Shared.OneNumber.{one_committed as one_txn_at, one_key as one_key_at}
+use Rattle.sia_parts.proofs.Shared.BadWrites.{made_version}
 
 pub positions_most : (h : List Event) (p q : ℕ) (v w : KeyVersion) → IsAtPosition h p v → IsAtPosition h q w → v.key ≡ w.key → v.commit ≤ w.commit → p ≤ q
 positions_most h p q v w at other same most = elim (cases_lt q p) [
   | inl more ↦ let l = commits_less h q p w v other at (sym same) more in absurd (omega arith)
   | inr le ↦ le
 ]
+
+-- keys don't descend along the positions
+pub keys_rise : (h : List Event) (p q : ℕ) (v w : KeyVersion) → IsAtPosition h p v → IsAtPosition h q w → p < q → v.key ≤ w.key
+keys_rise h p q v w at other less = elim (ascends_at h p q v w at other less) [ inl under ↦ omega arith | inr same ↦ let e = same.0 in omega arith ]
 
 -- t made the version of k at position q
 abbrev pub MadeAt : List Event → ℕ → ℕ → ℕ → Type 0
@@ -48,10 +53,7 @@ module _ (h : List Event) (wf : IsWellFormed h) where
 
   -- what was made at a position was committed, and each version that was has a position
   pub made_commits : (q t k : ℕ) → (m : MadeAt h q t k) → CommitsVersion h k t m.0.commit
-  made_commits q t k m = elim (is_version h q m.0 m.1) [
-    | inl none ↦ let z = none.1 in let p = m.4 in absurd (omega arith)
-    | inr c ↦ subst (λ u. CommitsVersion h k u m.0.commit) m.3 (subst (λ j. CommitsVersion h j m.0.txn m.0.commit) m.2 c)
-  ]
+  made_commits q t k m = subst (λ u. CommitsVersion h k u m.0.commit) m.3 (subst (λ j. CommitsVersion h j m.0.txn m.0.commit) m.2 (made_version h q m.0 m.1 m.4))
 
   module _ (versions : List KeyVersion) (are_all : AreAllVersions h versions) where
     pub made_at : (k t c : ℕ) → CommitsVersion h k t c → (q : ℕ) × (m : MadeAt h q t k) × (m.0.commit ≡ c)
@@ -106,8 +108,7 @@ module _ (h : List Event) (wf : IsWellFormed h) where
               | inr none ↦ let zero = none.0 in absurd (omega arith)
             ]),
         (λ w.
-            let m = made_commits w.1 t k w.3 in
-            wr_from_look k t u w.4.3.commit w.3.0.commit w.0 m (seen_looked w.2 u k w.4) (commits_most h w.1 w.2 w.3.0 w.4.3 w.3.1 w.4.4 (w.3.2 ∙ sym w.4.5) w.5)),
+            wr_from_look k t u w.4.3.commit w.3.0.commit w.0 (made_commits w.1 t k w.3) (seen_looked w.2 u k w.4) (commits_most h w.1 w.2 w.3.0 w.4.3 w.3.1 w.4.4 (w.3.2 ∙ sym w.4.5) w.5)),
       )
 
       -- t rw u: t saw a position below u's, or passed over the key, and u made a version of it

@@ -1,9 +1,11 @@
 -- Elements of lists by their positions.
-use Rattle.std.proofs.Common.{◌≡◌, ◌≢◌, ◌⊎◌, inl, inr, ℕ, zero, suc, ◌+◌, ◌<◌, true, false, List, [], ◌∷◌, ◌++◌, length, slice_get, Some, eqb, ap, sym, ◌∙◌, refl, arith}
-use Rattle.std.specs.Prelude.{Contains, AllPairs}
+use Rattle.std.proofs.Common.{◌≡◌, ◌≢◌, ◌⊎◌, inl, inr, ℕ, zero, suc, ◌+◌, true, false, List, [], ◌∷◌, ◌++◌, length, slice_get, Some, eqb, ap, sym, ◌∙◌, refl, arith, Contains, AllPairs, take, get_or, subst, ◌↔◌, ◌<◌}
 use Rattle.std.proofs.lemmas.Bool.{or_cases, or_left, or_right, cases_order, eqb-true, eq-eqb}
 use Rattle.std.proofs.lemmas.Option.{same_Some, slice_get_within, slice_get-get_or, get_or_from_slice_get}
+use Rattle.sia_events.proofs.LogRows.RowsRead.{get_more}
 use Rattle.sia_graph.specs.Fronts.{stands}
+use Rattle.std.proofs.lemmas.List.{take_more}
+use Rattle.std.proofs.lemmas.List.Elements.{Contains-append_left, Contains-push, Contains-push_cases}
 
 -- x has a position in xs
 abbrev pub Stands : {A : Type 0} → List A → A → Type 0
@@ -16,11 +18,6 @@ module _ {A : Type 0} where
   pub stands_contains : (xs : List A) (x : A) → Stands xs x → Contains xs x
   stands_contains xs x s = (s.0, slice_get_within xs s.0 x s.1, get_or_from_slice_get xs s.0 x x s.1)
 
-  pub get_left : (xs ys : List A) (i : ℕ) (x : A) → slice_get xs i ≡ Some x → slice_get (xs ++ ys) i ≡ Some x
-  get_left [] ys i x e = cc
-  get_left (y ∷ xs) ys zero x e = e
-  get_left (y ∷ xs) ys (suc i) x e = get_left xs ys i x e
-
   pub get_right : (xs ys : List A) (i : ℕ) (x : A) → slice_get ys i ≡ Some x → slice_get (xs ++ ys) (length xs + i) ≡ Some x
   get_right [] ys i x e = let same : 0 + i ≡ i = omega arith in ap (slice_get ys) same ∙ e
   get_right (y ∷ xs) ys i x e = let same : suc (length xs) + i ≡ suc (length xs + i) = omega arith in ap (slice_get (y ∷ (xs ++ ys))) same ∙ get_right xs ys i x e
@@ -30,14 +27,19 @@ module _ {A : Type 0} where
   get_cases (y ∷ xs) ys zero x e = inl e
   get_cases (y ∷ xs) ys (suc i) x e = grind (arith, get_cases xs ys i x e)
 
-  pub get_within : (xs ys : List A) (i : ℕ) (x : A) → i < length xs → slice_get (xs ++ ys) i ≡ Some x → slice_get xs i ≡ Some x
-  get_within xs ys i x l e = grind (arith, get_cases)
-
   pub only_one : (x y : A) (j : ℕ) → slice_get (y ∷ []) j ≡ Some x → (j ≡ 0) × (y ≡ x)
   only_one x y j p = grind (arith, same_Some)
 
   pub only_one_in : (x y : A) → Contains (x ∷ []) y → x ≡ y
   only_one_in x y c = let s = contains_stands (x ∷ []) y c in (only_one y x s.0 s.1).1
+
+-- what the first of a list have, with one more
+pub first_cases : {A : Type 0} (xs : List A) (n : ℕ) (d x : A) → n < length xs → Contains (take (n + 1) xs) x ↔ (Contains (take n xs) x ⊎ (get_or xs n d ≡ x))
+first_cases xs n d x below =
+    subst (λ ys. Contains ys x ↔ (Contains (take n xs) x ⊎ (get_or xs n d ≡ x))) (sym (take_more xs n d below)) (
+      Contains-push_cases (take n xs) (get_or xs n d) x,
+      λ e. elim e [ inl c ↦ Contains-append_left (take n xs) (get_or xs n d ∷ []) x c | inr same ↦ subst (Contains (take n xs ++ get_or xs n d ∷ [])) same (Contains-push (take n xs) (get_or xs n d)) ],
+    )
 
 -- each number has one position
 pub one_position : (xs : List ℕ) → AllPairs (λ x y. x ≢ y) xs → (t i j : ℕ) → slice_get xs i ≡ Some t → slice_get xs j ≡ Some t → i ≡ j
@@ -67,7 +69,7 @@ false_stands xs t e s = let p = sym e ∙ stands_true xs t s in cc
 
 -- one more at the end
 pub stands_more : (xs : List ℕ) (t u : ℕ) → Stands xs u → Stands (xs ++ t ∷ []) u
-stands_more xs t u s = (s.0, get_left xs (t ∷ []) s.0 u s.1)
+stands_more xs t u s = (s.0, get_more xs (t ∷ []) s.0 u s.1)
 
 pub stands_last : (xs : List ℕ) (t : ℕ) → Stands (xs ++ t ∷ []) t
 stands_last xs t = (length xs + 0, get_right xs (t ∷ []) 0 t refl)

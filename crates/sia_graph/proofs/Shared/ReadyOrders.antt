@@ -115,8 +115,7 @@ module _ (Edge : ℕ → ℕ → Type 0) where
         | inr fed ↦ absurd (none_fed x xs m fed)
         | inl r ↦
             let t = r.0 in
-            let fewer = shorter t (x ∷ xs) r.1 in
-            let rest = order_within n (without t (x ∷ xs)) (omega arith) (λ u i. m u (without_other t u (x ∷ xs) i).1) in
+            let rest = order_within n (without t (x ∷ xs)) (omega (arith, shorter t (x ∷ xs) r.1)) (λ u i. m u (without_other t u (x ∷ xs) i).1) in
             (t ∷ rest.0, put_first (x ∷ xs) rest.0 t r.1 r.2 rest.1)
       ]
 

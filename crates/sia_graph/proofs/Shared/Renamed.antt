@@ -1,6 +1,5 @@
 -- Members under other numbers that ascend as they do settle alike.
-use Rattle.std.proofs.Common.{◌≡◌, ◌↔◌, inl, inr, ℕ, List, [], ◌∷◌, map, refl, ap, sym, subst, arith}
-use Rattle.std.specs.Prelude.{Contains}
+use Rattle.std.proofs.Common.{◌≡◌, ◌↔◌, inl, inr, ℕ, List, [], ◌∷◌, map, refl, ap, sym, subst, arith, Contains}
 use Rattle.std.proofs.lemmas.Bool.{cases_order}
 use Rattle.sia_events.specs.Lists.{Precedes}
 use Rattle.sia_graph.specs.Closures.{IsOrderBy, IsLeastBy, IsFedBy, IsStuckBy}
@@ -126,8 +125,7 @@ module _ (name : ℕ → ℕ) where
           within : (xs : List ℕ) → AreNodes xs → IsFedBy M (LeadsByName name Step) (map name xs) → (t : ℕ) → Contains (map name xs) t → Contains (map name set) t
           within xs nodes fed t c =
               let w = map_in xs t (contains_in (map name xs) t c) in
-              let here = s.greatest xs nodes_fed w.0 (in_contains w.0 xs w.1) in
-              in_contains t (map name set) (subst (λ x. In x (map name set)) w.2 (in_map set w.0 (contains_in set w.0 here)))
+              in_contains t (map name set) (subst (λ x. In x (map name set)) w.2 (in_map set w.0 (contains_in set w.0 (s.greatest xs nodes_fed w.0 (in_contains w.0 xs w.1)))))
             where
               nodes_fed : IsFedBy Node Step xs
               nodes_fed a d =

@@ -1,37 +1,19 @@
 -- One list more among lists that stand side by side.
-use Rattle.std.proofs.Common.{◌≡◌, inl, inr, ℕ, ◌+◌, ◌*◌, ◌<◌, List, [], ◌∷◌, ◌++◌, length, get_or, refl, ap, sym, subst, ◌∙◌, arith}
-use Rattle.std.specs.Prelude.{◌↔◌, Contains}
+use Rattle.std.proofs.Common.{◌≡◌, ℕ, ◌+◌, ◌*◌, ◌<◌, List, [], ◌∷◌, ◌++◌, length, get_or, sym, subst, arith, ◌↔◌, Contains}
 use Rattle.std.proofs.lemmas.Bool.{cases_lt}
-use Rattle.std.proofs.lemmas.List.{get_or_append_left, get_or-append-add, length-append}
+use Rattle.std.proofs.lemmas.List.{get_or_append_left, length-append, get_or_push}
 use Rattle.sia_events.specs.declared.event.Event.{Event}
 use Rattle.sia_parts.specs.declared.accesses.Accesses.{Accesses}
-use Rattle.sia_index.specs.Lists.{with_last}
 use Rattle.sia_graph.specs.declared.order.Graph.{Graph}
 use Rattle.sia_graph.specs.NarrowSteps.{node_of}
 use Rattle.sia_graph.specs.SparseGraphs.{AreMemberTargets, AreSourcesOf, AreTargetsOf, HasNodes, IsBlockStep}
-
--- a row put at the end goes into the last list
-pub last_more : {A : Type 0} (lists : List (List A)) (xs : List A) (x : A) → with_last (lists ++ (xs ∷ [])) x ≡ lists ++ ((xs ++ x ∷ []) ∷ [])
-last_more [] xs x = refl
-last_more (ys ∷ []) xs x = refl
-last_more (ys ∷ zs ∷ lists) xs x = ap (λ l. ys ∷ l) (last_more (zs ∷ lists) xs x)
 
 -- each list of the first n has P with its number
 abbrev pub AreLists : (ℕ → List ℕ → Type 0) → List (List ℕ) → ℕ → Type 0
 AreLists P lists n = (length lists ≡ n) × ((x : ℕ) → x < n → P x (get_or lists x []))
 
 pub lists_more : (P : ℕ → List ℕ → Type 0) (lists : List (List ℕ)) (n : ℕ) (row : List ℕ) → AreLists P lists n → P n row → AreLists P (lists ++ (row ∷ [])) (n + 1)
-lists_more P lists n row are is = (
-  (let l = length-append lists (row ∷ []) in let e = are.0 in omega arith),
-  λ x below. elim (cases_lt x n) [
-    | inl less ↦ subst (P x) (sym (get_or_append_left lists (row ∷ []) [] x (let e = are.0 in omega arith))) (are.1 x less)
-    | inr more ↦
-        let same : n ≡ x = omega arith in
-        let at : get_or (lists ++ (row ∷ [])) (length lists + 0) [] ≡ row = get_or-append-add lists (row ∷ []) 0 [] in
-        let here : length lists + 0 ≡ n = let e = are.0 in omega arith in
-        subst (λ m. P m (get_or (lists ++ (row ∷ [])) m [])) same (subst (P n) (sym (ap (λ m. get_or (lists ++ (row ∷ [])) m []) (sym here) ∙ at)) is)
-  ],
-)
+lists_more P lists n row are is = grind (arith, length-append, cases_lt, get_or_append_left, get_or_push)
 
 -- one node more
 pub nodes_more : (h : List Event) (a : Accesses) (size n : ℕ) (g new : Graph) (targets sources : List ℕ) → HasNodes h a size n g → new.targets ≡ g.targets ++ (targets ∷ []) → new.sources ≡ g.sources ++ (sources ∷ [])

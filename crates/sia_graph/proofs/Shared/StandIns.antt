@@ -1,6 +1,5 @@
 -- Narrow edges settle what all edges settle: by blocks, by names and by closures.
-use Rattle.std.proofs.Common.{ℕ, List, map, subst, arith, rules}
-use Rattle.std.specs.Prelude.{◌↔◌, Contains}
+use Rattle.std.proofs.Common.{ℕ, List, map, subst, arith, rules, ◌↔◌, Contains}
 use Rattle.sia_events.specs.declared.event.Event.{Event}
 use Rattle.sia_events.specs.Closures.{HaveSameClosure}
 use Rattle.sia_events.specs.Transactions.{IsCommitted}
@@ -63,8 +62,7 @@ module _ (M : ℕ → Type 0) (E : Edge → Type 0) (floor : ℕ) (ids : List �
   pub none_keeps : (set : List ℕ) → IsStuckSet (Contains ids) HasEntry set → (t : ℕ) → Contains set t → (order : List ℕ) → ¬ IsKeepingOrder M E order
   none_keeps set s t c order =
       let u = members.any_stuck set s t c in
-      let fed = stuck set s in
-      no_order M E (λ x. Contains (map name (without_blocks floor set)) x) fed.self_fed (name u.0)
+      no_order M E (λ x. Contains (map name (without_blocks floor set)) x) (stuck set s).self_fed (name u.0)
       (in_contains (name u.0) (map name (without_blocks floor set)) (in_map name (without_blocks floor set) u.0 (contains_in (without_blocks floor set) u.0 u.1))) order
 
 -- the committed transactions of a history are such members

@@ -1,6 +1,5 @@
 -- Blocks of keys: which are over a key, and what a loop knows that goes up from the leaves.
-use Rattle.std.proofs.Common.{◌≡◌, ◌⊎◌, inl, inr, ℕ, zero, suc, ◌+◌, ◌-◌, ◌*◌, ◌/◌, ◌%◌, ◌^◌, ◌<◌, ◌≤◌, List, refl, ap, sym, ◌∙◌, subst, arith, rules}
-use Rattle.std.specs.Prelude.{◌↔◌, Contains}
+use Rattle.std.proofs.Common.{◌≡◌, ◌⊎◌, inl, inr, ℕ, zero, suc, ◌+◌, ◌-◌, ◌*◌, ◌/◌, ◌%◌, ◌^◌, ◌<◌, ◌≤◌, List, refl, ap, sym, ◌∙◌, subst, arith, rules, ◌↔◌, Contains}
 use Rattle.std.proofs.Math.Nat.{lt_of_mul-lt-mul_right, mul_assoc, mul-le-mul_left, mul-le-mul_right, pow-le-pow_right, pow-succ'}
 use Rattle.std.proofs.lemmas.Bool.{cases_lt}
 use Rattle.sia_graph.specs.KeyBlocks.{IsOver, IsUnderSome}
@@ -37,24 +36,18 @@ greater_power : (d e : ℕ) → 2 * 2 ^ e ≤ 2 ^ (e + 1 + d)
 greater_power zero e = let s : e + 1 + 0 ≡ e + 1 = omega arith in let p = ap (λ n. 2 ^ n) s in let q = doubled e in omega arith
 greater_power (suc d) e =
     let s : e + 1 + suc d ≡ suc (e + 1 + d) = omega arith in
-    let p = ap (λ n. 2 ^ n) s in
-    let h = greater_power d e in
-    omega arith
+    omega (arith, ap (λ n. 2 ^ n) s, greater_power d e)
 
 module _ (size key : ℕ) (is_key : key < size) (b e : ℕ) (low : size ≤ b * 2 ^ e) (high : (b + 1) * 2 ^ e ≤ 2 * size) where
   not_higher : (n : ℕ) → e < n → b * 2 ^ n ≤ size + key → ⊥
   not_higher n l from =
       let s : n ≡ e + 1 + (n - (e + 1)) = omega arith in
-      let g : 2 * 2 ^ e ≤ 2 ^ n = subst (λ m. 2 * 2 ^ e ≤ 2 ^ m) (sym s) (greater_power (n - (e + 1)) e) in
-      let p = mul-le-mul_left b g in
-      omega arith
+      omega (arith, mul-le-mul_left b (subst (λ m. 2 * 2 ^ e ≤ 2 ^ m) (sym s) (greater_power (n - (e + 1)) e)))
 
   not_lower : (n : ℕ) → n < e → size + key < (b + 1) * 2 ^ n → ⊥
   not_lower n l below =
       let s : e ≡ n + 1 + (e - (n + 1)) = omega arith in
-      let g : 2 * 2 ^ n ≤ 2 ^ e = subst (λ m. 2 * 2 ^ n ≤ 2 ^ m) (sym s) (greater_power (e - (n + 1)) n) in
-      let p = mul-le-mul_left (b + 1) g in
-      omega arith
+      omega (arith, mul-le-mul_left (b + 1) (subst (λ m. 2 * 2 ^ n ≤ 2 ^ m) (sym s) (greater_power (e - (n + 1)) n)))
 
   -- a block that is over leaves alone is over these and no others
   pub over_here : IsOver size b key → (b * 2 ^ e ≤ size + key) × (size + key < (b + 1) * 2 ^ e)

@@ -3,12 +3,11 @@ use Rattle.std.proofs.Common.{◌≡◌, ◌≢◌, ◌⊎◌, inl, inr, ℕ, ze
 use Rattle.std.specs.Prelude.{⊤, Contains}
 use Rattle.std.proofs.Math.Nat.{mul_assoc, mul_comm, mul-le-mul_left, mul-le-mul_right, pow-succ'}
 use Rattle.std.proofs.lemmas.Bool.{cases_lt}
-use Rattle.std.proofs.lemmas.List.{get_or_default, get_or_past}
-use Rattle.std.proofs.lemmas.List.FromFn.{length-range_with_len}
+use Rattle.std.proofs.lemmas.List.{get_or_past}
 use Rattle.sia_events.specs.declared.event.Event.{Event}
 use Rattle.sia_events.specs.Closures.{HaveSameClosure}
 use Rattle.sia_events.specs.Closures.LeadsInSteps.{step}
-use Rattle.sia_events.specs.Dependencies.{HasEdge, RwEdge, WrEdge, WwEdge}
+use Rattle.sia_events.specs.Dependencies.{HasEdge}
 use Rattle.sia_events.specs.Lists.{ListsAscending}
 use Rattle.sia_events.specs.NarrowDependencies.{CommitsVersion, HasNarrowEdge, IsNextVersion, NarrowRwEdge, NarrowWrEdge, NarrowWwEdge}
 use Rattle.sia_events.specs.Refusals.{IsWellFormed}
@@ -24,10 +23,8 @@ use Rattle.sia_index.specs.Numbers.{IsCommittedAt}
 use Rattle.sia_index.specs.Positions.{AreAllVersions}
 use Rattle.sia_index.proofs.Shared.KeyChains.{key_number}
 use Rattle.sia_parts.specs.declared.accesses.Accesses.{Accesses}
-use Rattle.sia_parts.specs.declared.finding.Kind.{Kind}
-use Rattle.sia_parts.specs.declared.finding.Kind.TheVariants.{Ww, Wr, Rw}
 use Rattle.sia_parts.specs.Accesses.{AreAccesses, Missed}
-use Rattle.sia_parts.specs.Entries.{EdgeOfKind, IsEdge}
+use Rattle.sia_parts.specs.Entries.{IsEdge}
 use Rattle.sia_parts.proofs.CutKeys.StartLemmas.{increasing}
 use Rattle.sia_graph.specs.declared.order.Graph.{Graph}
 use Rattle.sia_graph.specs.Blocks.{IsWayThrough, LeadsThrough}
@@ -44,9 +41,10 @@ use Rattle.sia_graph.proofs.Shared.AscendingIds.{ids_less}
 use Rattle.sia_graph.proofs.SparseGraphs.KeyBlocks.{doubled}
 use Rattle.sia_graph.proofs.Shared.Numbered.{commits_at, is_committed_at, number_of, one_next, txn_number}
 use Rattle.sia_graph.proofs.Shared.PositionEdges.{rw_from_look, wr_from_look}
-use Rattle.sia_graph.proofs.Shared.Ranges.{range_is}
 use Rattle.sia_parts.proofs.Shared.OneNumber.{one_committed_number as one_number, one_key as one_key_at, one_committed as one_txn_at}
 use Rattle.sia_parts.proofs.EdgeRows.PositionOrder.{one_version as one_at, position_of}
+use Rattle.sia_graph.proofs.Orders.TakenFronts.{edge_leads, in_range, leads_edge, range_in}
+use Rattle.sia_graph.proofs.OnEvidence.Judging.{has_by, leads_by}
 
 -- a block that is over what one of its halves is over
 over_half : (size b c j : ℕ) → 2 * b ≤ c → c ≤ 2 * b + 1 → IsOver size c j → IsOver size b j
@@ -74,10 +72,9 @@ module _ (h : List Event) (wf : IsWellFormed h) (a : Accesses) (are : AreAccesse
       let look = w.3 in
       let v = look.version in
       let next = f.3 in
-      let same = one_at h f.1 next.0 v.0 next.1 v.1 in
       let behind : IsNextVersion h w.1 w.2 next.2 =
       subst (λ k. IsNextVersion h k w.2 next.2) v.2
-      (subst (λ c. IsNextVersion h v.0.key c next.2) v.3 (subst (λ (x : KeyVersion). IsNextVersion h x.key x.commit next.2) same next.3)) in
+      (subst (λ c. IsNextVersion h v.0.key c next.2) v.3 (subst (λ (x : KeyVersion). IsNextVersion h x.key x.commit next.2) (one_at h f.1 next.0 v.0 next.1 v.1) next.3)) in
       let other : w.0 ≢ next.2 = λ e. f.0 (one_number h m i next.2 next.4 (subst (IsCommittedAt h i) e look.txn)) in
       (w.0, next.2, look.txn, next.4, (w.1, inr (inr (rw_from_look h wf w.1 w.0 next.2 w.2 behind.0 other behind.1 w.4 behind.2))))
 
@@ -106,12 +103,6 @@ module _ (h : List Event) (wf : IsWellFormed h) (a : Accesses) (are : AreAccesse
 
     abbrev name : ℕ → ℕ
     name = name_of size txns
-
-    to_step : (x y : ℕ) → LeadsTo g x y → Step x y
-    to_step x y l = (record { src = x; dst = y; kind = Ww; key = 0 }, (l, refl, refl), refl, refl)
-
-    of_step : (x y : ℕ) → Step x y → LeadsTo g x y
-    of_step x y s = subst (λ v. LeadsTo g v y) s.2 (subst (λ v. LeadsTo g s.0.src v) s.3 s.1.0)
 
     named : (i t : ℕ) → IsCommittedAt h i t → name (node_of size i) ≡ t
     named i t at = let e : node_of size i - 2 * size ≡ i = omega arith in ap (λ n. get_or txns n 0) e ∙ (txn_number h txns txns_are i t at).1
@@ -160,7 +151,7 @@ module _ (h : List Event) (wf : IsWellFormed h) (a : Accesses) (are : AreAccesse
         inl (w.1, w.0, e.0, e.1, e.2, e.3, e.4, w.4.0, w.3, w.2)
 
     ends : (x y : ℕ) → Step x y → Ends x y
-    ends x y s = ends_of x y (of_step x y s)
+    ends x y s = ends_of x y (edge_leads g x y s)
 
     -- block b is over some key of which u's transaction made the first version
     abbrev IsAbove : ℕ → ℕ → Type 0
@@ -179,8 +170,7 @@ module _ (h : List Event) (wf : IsWellFormed h) (a : Accesses) (are : AreAccesse
           | inl half ↦
               let under = down n way.0 u way.2 member way.3 in
               let low : 2 * b ≤ way.0 = elim half.2 [ inl e ↦ omega arith | inr e ↦ omega arith ] in
-              let high : way.0 ≤ 2 * b + 1 = elim half.2 [ inl e ↦ omega arith | inr e ↦ omega arith ] in
-              (under.0, under.1, over_half size b way.0 under.0 low high under.2, under.3, under.4, under.5)
+              (under.0, under.1, over_half size b way.0 under.0 low (elim half.2 [ inl e ↦ omega arith | inr e ↦ omega arith ]) under.2, under.3, under.4, under.5)
           | inr leaf ↦ let e = leaf.5 in let l = way.2 in absurd (omega arith)
         ]
         | inr p ↦ let e = p.3 in absurd (omega arith)
@@ -196,9 +186,8 @@ module _ (h : List Event) (wf : IsWellFormed h) (a : Accesses) (are : AreAccesse
         let first = above.4 in
         let next : IsNextVersion h w.1 0 first.1 = subst (λ k. IsNextVersion h k 0 first.1) (one_key_at h j first.0 w.1 first.2 w.3) first.3 in
         let other : w.0 ≢ first.1 = λ same. passed.1 (subst (IsFirstMaker h j) (one_number h above.3 p.0 first.1 first.4 (subst (IsCommittedAt h p.0) same w.2)) first) in
-        let edge : HasEdge h w.0 first.1 = (w.1, inr (inr (rw_from_look h wf w.1 w.0 first.1 0 next.0 other next.1 w.4 next.2))) in
         subst (λ x. HasEdge h x (name u)) (sym (named p.0 w.0 w.2) ∙ sym (ap name p.3))
-        (subst (λ x. HasEdge h w.0 x) (sym (named above.3 first.1 first.4) ∙ sym (ap name above.5)) edge)
+        (subst (λ x. HasEdge h w.0 x) (sym (named above.3 first.1 first.4) ∙ sym (ap name above.5)) (w.1, inr (inr (rw_from_look h wf w.1 w.0 first.1 0 next.0 other next.1 w.4 next.2))))
 
     members_edge : (x y : ℕ) → IsMembers x y → HasEdge h (name x) (name y)
     members_edge x y m =
@@ -225,7 +214,7 @@ module _ (h : List Event) (wf : IsWellFormed h) (a : Accesses) (are : AreAccesse
     By t u = LeadsByName name (LeadsThrough floor Step) t u
 
     by_step : (i j t u : ℕ) → IsCommittedAt h i t → IsCommittedAt h j u → LeadsTo g (node_of size i) (node_of size j) → By t u
-    by_step i j t u x y l = (node_of size i, node_of size j, named i t x, named j u y, (omega arith, omega arith, 0, to_step (node_of size i) (node_of size j) l))
+    by_step i j t u x y l = (node_of size i, node_of size j, named i t x, named j u y, (omega arith, omega arith, 0, leads_edge g (node_of size i) (node_of size j) l))
 
     by_waiting : (i m t u : ℕ) → IsCommittedAt h m t → IsCommittedAt h i u → IsWaitedFor h a i m → By t u
     by_waiting i m t u x y w = by_step m i t u x y (inr ((has.sources (node_of size i) (below_all i u y) (node_of size m)).1 (i, m, refl, refl, w)))
@@ -241,9 +230,8 @@ module _ (h : List Event) (wf : IsWellFormed h) (a : Accesses) (are : AreAccesse
         let q = position_of h versions versions_are v (inr next.1) in
         let i = number_of h txns txns_are t (c, n.1.1) in
         let j = number_of h txns txns_are u (next.0, next.1.1) in
-        let less : c < next.0 = next.2 in
         let other : t ≢ u = λ same. let e = one_commit h wf u c next.0 (subst (λ x. CommitsAt h x c) same n.1.1) next.1.1 in let no : ⊥ = omega arith in no in
-        by_waiting j.0 i.0 t u i.1 j.1 (apart i.0 j.0 t u i.1 j.1 other, q.0, inr ((v, q.1, commits_above h u next.0 next.1.1, j.1), (v, q.1, t, c, n.1, next, less, i.1)))
+        by_waiting j.0 i.0 t u i.1 j.1 (apart i.0 j.0 t u i.1 j.1 other, q.0, inr ((v, q.1, commits_above h u next.0 next.1.1, j.1), (v, q.1, t, c, n.1, next, next.2, i.1)))
 
     narrow_wr : (k t u : ℕ) → NarrowWrEdge h t u k → By t u
     narrow_wr k t u n =
@@ -268,7 +256,7 @@ module _ (h : List Event) (wf : IsWellFormed h) (a : Accesses) (are : AreAccesse
     ]
 
     half_leads : (b c : ℕ) → 0 < b → b < size → (c ≡ 2 * b) ⊎ (c ≡ 2 * b + 1) → Step b c
-    half_leads b c some below which = to_step b c (inl (((has.targets b (omega arith)).block (omega arith) c).1 (inl (some, below, which))))
+    half_leads b c some below which = leads_edge g b c (inl (((has.targets b (omega arith)).block (omega arith) c).1 (inl (some, below, which))))
 
     -- a way down from a block to who made the first version of a key below it
     way_down : (e b j u : ℕ) → 0 < b → j < size → b * 2 ^ e ≤ size + j → size + j < (b + 1) * 2 ^ e → Step (size + j) u → (n : ℕ) × IsWayThrough floor Step n b u
@@ -276,9 +264,8 @@ module _ (h : List Event) (wf : IsWellFormed h) (a : Accesses) (are : AreAccesse
         let same : size + j ≡ b = let x : b * 2 ^ 0 ≡ b = omega arith in let y : (b + 1) * 2 ^ 0 ≡ b + 1 = omega arith in omega arith in
         (0, subst (λ x. Step x u) same leaf)
     way_down (suc e) b j u some below low high leaf =
-        let double = pow-succ' 2 e in
         let r : (b + 1) * 2 ^ suc e ≡ (2 * b + 1 + 1) * 2 ^ e =
-        ap (λ y. (b + 1) * y) double ∙ sym (mul_assoc (b + 1) 2 (2 ^ e)) ∙ ap (λ y. y * 2 ^ e) (mul_comm (b + 1) 2 ∙ (let z : 2 * (b + 1) ≡ 2 * b + 1 + 1 = omega arith in z)) in
+        ap (λ y. (b + 1) * y) (pow-succ' 2 e) ∙ sym (mul_assoc (b + 1) 2 (2 ^ e)) ∙ ap (λ y. y * 2 ^ e) (mul_comm (b + 1) 2 ∙ (let z : 2 * (b + 1) ≡ 2 * b + 1 + 1 = omega arith in z)) in
         let least : (2 * b) * 1 ≤ (2 * b) * 2 ^ e = mul-le-mul_left (2 * b) (omega arith) in
         elim (cases_lt (size + j) ((2 * b + 1) * 2 ^ e)) [
           | inl left ↦
@@ -294,7 +281,6 @@ module _ (h : List Event) (wf : IsWellFormed h) (a : Accesses) (are : AreAccesse
     by_passing i j t u k at other key missed next =
         let below = is_below j k i key missed in
         let m = number_of h txns txns_are u (next.0, next.1.1) in
-        let first : IsFirstMaker h j m.0 = (k, u, key, next, m.1) in
         let own : ¬ IsFirstMaker h j i = λ f.
         other (one_txn_at h i t u at (subst (IsCommittedAt h i) (one_next h k 0 f.1 u (subst (λ n. IsNextVersion h n 0 f.1) (one_key_at h j f.0 k f.2 key) f.3) next) f.4)) in
         let x = node_of size i in
@@ -303,9 +289,9 @@ module _ (h : List Event) (wf : IsWellFormed h) (a : Accesses) (are : AreAccesse
         let up : b.0 * 1 ≤ b.0 * 2 ^ b.2.0 = mul-le-mul_left b.0 (omega arith) in
         let block : b.0 < floor = let l = b.2.1 in omega arith in
         let leaf : Step (size + j) (node_of size m.0) =
-        to_step (size + j) (node_of size m.0) (inl (((has.targets (size + j) (omega arith)).block (omega arith) (node_of size m.0)).1 (inr (j, m.0, refl, below, first, refl)))) in
+        leads_edge g (size + j) (node_of size m.0) (inl (((has.targets (size + j) (omega arith)).block (omega arith) (node_of size m.0)).1 (inr (j, m.0, refl, below, (k, u, key, next, m.1), refl)))) in
         let way = way_down b.2.0 b.0 j (node_of size m.0) (targets.some b.0 block b.1) below b.2.1 b.2.2 leaf in
-        (x, node_of size m.0, named i t at, named m.0 u m.1, (omega arith, omega arith, suc way.0, (b.0, to_step x b.0 (inl b.1), block, way.1)))
+        (x, node_of size m.0, named i t at, named m.0 u m.1, (omega arith, omega arith, suc way.0, (b.0, leads_edge g x b.0 (inl b.1), block, way.1)))
 
     narrow_rw : (k t u : ℕ) → NarrowRwEdge h t u k → By t u
     narrow_rw k t u n =
@@ -317,25 +303,16 @@ module _ (h : List Event) (wf : IsWellFormed h) (a : Accesses) (are : AreAccesse
               let v = look.version in
               let m = number_of h txns txns_are u (next.0, next.1.1) in
               let behind : IsNextVersion h v.0.key v.0.commit u = subst (λ d. IsNextVersion h v.0.key d u) (sym v.3) (subst (λ k. IsNextVersion h k c u) (sym v.2) next) in
-              let other = apart m.0 r.0 u t m.1 look.txn (λ e. n.0 (sym e)) in
               by_step r.0 m.0 t u look.txn m.1
               (inl ((((has.targets (node_of size r.0) (below_all r.0 t look.txn)).member r.0 refl).members (node_of size m.0) (omega arith)).1
-              (m.0, refl, (other, r.1, look.saw, (v.0, v.1, u, behind, m.1)))))
+              (m.0, refl, (apart m.0 r.0 u t m.1 look.txn (λ e. n.0 (sym e)), r.1, look.saw, (v.0, v.1, u, behind, m.1)))))
           | inr none ↦
               let p = none.2 in
               by_passing none.1 p.key.0 t u k p.txn n.0 p.key.1 p.key.2 (subst (λ d. IsNextVersion h k d u) none.0 next)
         ]
 
     narrow_by : (t u : ℕ) → HasNarrowEdge h t u → By t u
-    narrow_by t u n = by_kind n.1
-      where
-        by_kind : NarrowWwEdge h t u n.0 ⊎ NarrowWrEdge h t u n.0 ⊎ NarrowRwEdge h t u n.0 → By t u
-        by_kind (inl e) = narrow_ww n.0 t u e
-        by_kind (inr (inl e)) = narrow_wr n.0 t u e
-        by_kind (inr (inr e)) = narrow_rw n.0 t u e
-
-    by_edge : (t u : ℕ) → By t u → HasEdge h t u
-    by_edge t u b = subst (λ x. HasEdge h x u) b.2 (subst (λ x. HasEdge h (name b.0) x) b.3 (through_edge b.0 b.1 b.4))
+    narrow_by t u n = elim n.1 [ inl e ↦ narrow_ww n.0 t u e | inr (inl e) ↦ narrow_wr n.0 t u e | inr (inr e) ↦ narrow_rw n.0 t u e ]
 
     joined : (x y : ℕ) → Ends x y → (x < floor + length txns) × (y < floor + length txns) × (x ≢ y)
     joined x y p = grind (arith, below_all)
@@ -343,41 +320,18 @@ module _ (h : List Event) (wf : IsWellFormed h) (a : Accesses) (are : AreAccesse
     ascending : (x y : ℕ) → Ends x y → x < floor → y < floor → x < y
     ascending x y p q r = grind arith
 
-    has_by_kind : (t u : ℕ) → Leads (IsEdge h) t u → HasEdge h t u
-    has_by_kind t u leads = let e = leads.0 in subst (λ x. HasEdge h x u) leads.2 (subst (λ x. HasEdge h e.src x) leads.3 (of_kind e.kind leads.1))
-      where
-        of_kind : (kind : Kind) → EdgeOfKind h kind leads.0.src leads.0.dst leads.0.key → HasEdge h leads.0.src leads.0.dst
-        of_kind Ww e = (leads.0.key, inl e)
-        of_kind Wr e = (leads.0.key, inr (inl e))
-        of_kind Rw e = (leads.0.key, inr (inr e))
-
-    kind_of : (t u : ℕ) → HasEdge h t u → Leads (IsEdge h) t u
-    kind_of t u e = of_any e.1
-      where
-        of_any : WwEdge h t u e.0 ⊎ WrEdge h t u e.0 ⊎ RwEdge h t u e.0 → Leads (IsEdge h) t u
-        of_any (inl w) = (record { src = t; dst = u; kind = Ww; key = e.0 }, w, refl, refl)
-        of_any (inr (inl w)) = (record { src = t; dst = u; kind = Wr; key = e.0 }, w, refl, refl)
-        of_any (inr (inr w)) = (record { src = t; dst = u; kind = Rw; key = e.0 }, w, refl, refl)
-
     reaches : HaveSameClosure (Leads (IsEdge h)) By
     reaches t u =
-        let same = narrow_closure h wf narrow_by by_edge t u in (
-          (λ l. same.1 (leads_through (λ x y e. step (has_by_kind x y e)) l)),
-          (λ l. leads_through (λ x y e. step (kind_of x y e)) (same.0 l)),
+        let same = narrow_closure h wf narrow_by (λ t u b. subst (λ x. HasEdge h x u) b.2 (subst (λ x. HasEdge h (name b.0) x) b.3 (through_edge b.0 b.1 b.4))) t u in (
+          (λ l. same.1 (leads_through (λ x y e. step (has_by h x y e)) l)),
+          (λ l. leads_through (λ x y e. step (leads_by h x y e)) (same.0 l)),
         )
 
-    long : length (node_list size txns) ≡ floor + length txns
-    long = length-range_with_len 0 (2 * size + length txns)
-
     is_node : (x : ℕ) → x < floor + length txns → Contains (node_list size txns) x
-    is_node x l = let e = long in let m : x < length (node_list size txns) = omega arith in (x, m, get_or_default (node_list size txns) x x 0 m ∙ range_is (2 * size + length txns) x m)
+    is_node x l = in_range (2 * size + length txns) x l
 
     node_within : (x : ℕ) → Contains (node_list size txns) x → x < floor + length txns
-    node_within x c =
-        let e = range_is (2 * size + length txns) c.0 c.1 in
-        let f = get_or_default (node_list size txns) c.0 0 x c.1 in
-        let m = long in
-        omega arith
+    node_within x c = range_in (2 * size + length txns) x c
 
     pub sparse : IsSparse h size txns g
     sparse = record {
@@ -398,9 +352,7 @@ module _ (h : List Event) (wf : IsWellFormed h) (a : Accesses) (are : AreAccesse
               let i = number_of h txns txns_are t c in
               (node_of size i.0, (is_node (node_of size i.0) (below_all i.0 t i.1), omega arith), named i.0 t i.1)),
           (λ w.
-              let x = node_within w.0 w.1.0 in
-              let inside : w.0 - floor < length txns = omega arith in
-              is_committed_at h (w.0 - floor) t (txns, txns_are, inside, w.2)),
+              is_committed_at h (w.0 - floor) t (txns, txns_are, omega (arith, node_within w.0 w.1.0), w.2)),
         );
         reach = reaches;
       };

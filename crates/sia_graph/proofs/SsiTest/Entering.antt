@@ -1,7 +1,5 @@
 -- The greatest value of those with an rw edge to a transaction, by the positions of its versions.
-use Rattle.std.proofs.Common.{◌≡◌, ◌⊎◌, inl, inr, ℕ, ◌+◌, ◌<◌, ◌≤◌, List, length, get_or, max, refl, ap, sym, subst, ◌∙◌}
-use Rattle.std.specs.Prelude.{◌↔◌}
-use Rattle.std.proofs.lemmas.List.{take_all}
+use Rattle.std.proofs.Common.{◌≡◌, ◌⊎◌, inl, inr, ℕ, ◌+◌, ◌<◌, ◌≤◌, List, length, get_or, max, refl, ap, sym, subst, ◌∙◌, ◌↔◌, take_all}
 use Rattle.sia_events.specs.declared.event.Event.{Event}
 use Rattle.sia_events.specs.Dependencies.{RwEdge}
 use Rattle.sia_events.proofs.OfLaws.Looks.{commits_above}
@@ -40,8 +38,7 @@ module _ (h : List Event) (values late : List ℕ) (are : AreLate h values late)
       (λ x positive. (
         (λ l. let w = (are.each (get_or made n d) v at some x positive).0 l in (w.0, (v, at, some, w.1), w.2)),
         (λ w.
-            let same = one_at h (get_or made n d) w.1.0 v w.1.1 at in
-            (are.each (get_or made n d) v at some x positive).1 (w.0, subst (λ (u : KeyVersion). EntersAt h values u.txn u.key w.0) same w.1.3, w.2)),
+            (are.each (get_or made n d) v at some x positive).1 (w.0, subst (λ (u : KeyVersion). EntersAt h values u.txn u.key w.0) (one_at h (get_or made n d) w.1.0 v w.1.1 at) w.1.3, w.2)),
       ))
 
   pub entering_all : (t n greatest : ℕ) → length made ≤ n → ListsAscending (λ q. (v : KeyVersion) × IsAtPosition h q v × (0 < v.commit) × (v.txn ≡ t)) made
@@ -56,10 +53,9 @@ module _ (h : List Event) (values late : List ℕ) (are : AreLate h values late)
         (w.0, (e.0, e.1, e.2, (f.2.0.key, subst (λ u. RwEdge h e.1 u f.2.0.key) own e.3), e.4), w.2)),
     (λ w.
         let e = w.1 in
-        let k = e.3.0 in
         let rw' = e.3.1 in
         let d = rw'.2.1.0 in
-        let v : KeyVersion = record { key = k; commit = d; txn = t } in
+        let v : KeyVersion = record { key = e.3.0; commit = d; txn = t } in
         let q = position_of h are.long.0 are.long.1 v (inr (rw'.2.0, rw'.2.1.1)) in
         let positive = commits_above h t d rw'.2.1.1 in
         let f : FromSome (EntersPosition h values) made w.0 = (q.0, (made_are.each q.0).1 (v, q.1, positive, refl), (v, q.1, positive, (e.0, e.1, e.2, rw', e.4))) in

@@ -1,8 +1,7 @@
 -- Firsts of dangerous structures by limits, where isolation is kept.
 -- The dangerous structure that is told, by the numbers of its transactions.
-use Rattle.std.proofs.Common.{◌≡◌, ◌≢◌, ◌⊎◌, inl, inr, true, false, Option, ℕ, ◌+◌, ◌-◌, ◌<◌, ◌≤◌, List, [], ◌∷◌, ◌++◌, length, get_or, map, min, refl, ap, sym, subst, ◌∙◌, arith}
+use Rattle.std.proofs.Common.{◌≡◌, ◌≢◌, ◌⊎◌, inl, inr, true, false, Option, ℕ, ◌+◌, ◌-◌, ◌<◌, ◌≤◌, List, [], ◌∷◌, ◌++◌, length, get_or, map, min, refl, ap, sym, subst, ◌∙◌, arith, is_some}
 use Rattle.std.specs.Prelude.{◌↔◌, ⊤, MatchOption}
-use Rattle.std.specs.Option.{is_some}
 use Rattle.std.proofs.lemmas.Bool.{cases_lt, cases_eq}
 use Rattle.std.proofs.lemmas.List.{get_or-map, get_or_append_left, get_or_default, get_or_push, length-append}
 use Rattle.sia_events.specs.declared.event.Event.{Event}
@@ -66,8 +65,7 @@ module _ (h : List Event) (wf : IsWellFormed h) where
     pub saw_early : (p : ℕ) (v : KeyVersion) → IsAtPosition h p v → SawPosition a i p → IsFollowedBy h v place → HasEarly h t place
     saw_early p v there saw f =
         let l = look_at h a are i t p at (inl saw) in
-        let look = subst (λ (x : KeyVersion). Looked h t x.key x.commit) (one_at h p l.0 v l.1 there) l.2 in
-        behind v.key v.commit f.0 f.1 look f.2 f.3 f.4
+        behind v.key v.commit f.0 f.1 (subst (λ (x : KeyVersion). Looked h t x.key x.commit) (one_at h p l.0 v l.1 there) l.2) f.2 f.3 f.4
 
     pub missed_early : (j k : ℕ) → IsKeyAt h j k → Missed a i j → HasVersionUpTo h k place → HasEarly h t place
     missed_early j k key missed up =
@@ -95,10 +93,9 @@ module _ (h : List Event) (wf : IsWellFormed h) where
         (λ le.
             let w = (entering d positive).0 (omega arith) in
             let e = w.1 in
-            let by = are e.0 e.1 e.2 in
             let same = e.4 in
             let l = w.2 in
-            ((d, c, ends, at, omega arith), (e.1, e.3, or u d e.1 (get_or commits e.0 0) ends by (omega arith)))),
+            ((d, c, ends, at, omega arith), (e.1, e.3, or u d e.1 (get_or commits e.0 0) ends (are e.0 e.1 e.2) (omega arith)))),
         (λ w.
             let b = w.0 in
             let x = one_commit h wf u d b.0 ends b.2 in
@@ -111,12 +108,9 @@ module _ (h : List Event) (wf : IsWellFormed h) where
             let le : d ≤ get_or commits n.0 0 = elim w.1.2 [
               | inl same ↦ let z = one_commit h wf r d (get_or commits n.0 0) (subst (λ x. CommitsAt h x d) same ends) by in omega arith
               | inr after ↦
-                  let z = one_commit h wf u d after.0 ends after.2 in
-                  let q = one_commit h wf r (get_or commits n.0 0) after.1 by after.3 in
-                  omega arith
+                  omega (arith, one_commit h wf u d after.0 ends after.2, one_commit h wf r (get_or commits n.0 0) after.1 by after.3)
             ] in
-            let l = (entering d positive).1 (get_or commits n.0 0, (n.0, r, n.1, edge, refl), le) in
-            omega arith),
+            omega (arith, (entering d positive).1 (get_or commits n.0 0, (n.0, r, n.1, edge, refl), le))),
       )
     where
       or : (u d r e : ℕ) → CommitsAt h u d → CommitsAt h r e → d ≤ e → (u ≡ r) ⊎ CommitsBefore h u r
@@ -211,9 +205,6 @@ module _ (h : List Event) (txns : List ℕ) (are : ListsAscending (IsCommitted h
           (λ f. let w = (first_early h wf kept t limit is u).0 f in (w.0, 1, w.2, w.3, (pivot, t, at, w.1, one), omega arith)),
         )
 
-        pub last_least : (n u : ℕ) → IsCommittedAt h n u → IsFirst h t u → ((j v : ℕ) → j < n → IsCommittedAt h j v → ¬ IsFirst h t v) → IsLeast (IsFirst h t) u
-        last_least = least_named (IsFirst h t) (first_committed t)
-
       -- the least with an rw edge to the pivot that is the last or commits after it
       module _ (last place : ℕ) (ends : CommitsAt h last place) (first : IsFirst h t last) (lifetimes : List Lifetime) (lived : AreLifetimes h txns lifetimes) (values : List ℕ)
           (from : AreValuesFrom place lifetimes values (length lifetimes)) (greatest : ℕ) (entering : IsLastOf (Enters h values t) greatest) where
@@ -226,9 +217,7 @@ module _ (h : List Event) (txns : List ℕ) (are : ListsAscending (IsCommitted h
           λ d at. elim m.1 [
             | inl same ↦ let z = one_commit h wf u place d (subst (λ x. CommitsAt h x place) same ends) at in omega arith
             | inr after ↦
-                let x = one_commit h wf last place after.0 ends after.2 in
-                let y = one_commit h wf u d after.1 at after.3 in
-                omega arith
+                omega (arith, one_commit h wf last place after.0 ends after.2, one_commit h wf u d after.1 at after.3)
           ],
         )
 
@@ -259,15 +248,13 @@ module _ (h : List Event) (txns : List ℕ) (are : ListsAscending (IsCommitted h
             let n = number_of h txns are r (c.1, c.3) in
             let low = valued n.0 r n.1 (first.3, first.4) in
             let l = inside n.0 r n.1 in
-            let positive : 0 < greatest = omega arith in
-            let w = (entering greatest positive).0 (omega arith) in
+            let w = (entering greatest (omega arith)).0 (omega arith) in
             let e = w.1 in
-            let at = ends_at e.0 e.1 e.2 in
             let below = inside e.0 e.1 e.2 in
             let le : w.0 ≤ greatest = (entering w.0 (omega arith)).1 (w.0, e, omega arith) in
             elim (cases_lt (get_or lifetimes e.0 none).commit place) [
               | inl early ↦ let z = from.early e.0 none below early in absurd (omega arith)
-              | inr late ↦ let z = from.late e.0 none below late in (e.0, e.1, e.2, may_be e.1 (get_or lifetimes e.0 none).commit e.3 at late, omega arith)
+              | inr late ↦ let z = from.late e.0 none below late in (e.0, e.1, e.2, may_be e.1 (get_or lifetimes e.0 none).commit e.3 (ends_at e.0 e.1 e.2) late, omega arith)
             ]
 
         pub first_fits : greatest ≤ length lifetimes

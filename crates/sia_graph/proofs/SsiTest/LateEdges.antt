@@ -1,17 +1,13 @@
 -- The marks before each position of a key, position by position.
 -- The last marks before a position are the last commits of those with an rw edge to who made its version.
-use Rattle.std.proofs.Common.{◌≡◌, ◌⊎◌, inl, inr, ℕ, ◌+◌, ◌<◌, ◌≤◌, List, [], ◌∷◌, length, get_or, set, refl, ap, sym, subst, ◌∙◌, arith, ◌≢◌}
+use Rattle.std.proofs.Common.{◌≡◌, ◌⊎◌, inl, inr, ℕ, ◌+◌, ◌<◌, ◌≤◌, List, ◌∷◌, length, get_or, set, refl, ap, sym, subst, ◌∙◌, arith, ◌≢◌, get_or-set_other, get_or-set_same, length-set}
 use Rattle.std.specs.Prelude.{◌↔◌, ⊤}
-use Rattle.std.specs.List.{slice_get}
 use Rattle.std.proofs.lemmas.Bool.{cases_lt, cases_eq}
-use Rattle.std.proofs.lemmas.List.{get_or-set_other, get_or-set_same, length-set}
-use Rattle.std.proofs.lemmas.Option.{get_or_from_slice_get, slice_get_within}
 use Rattle.sia_events.specs.declared.event.Event.{Event}
-use Rattle.sia_events.specs.Lists.{Precedes, ListsAscending}
-use Rattle.sia_events.proofs.Worked.OneList.{one_list_by}
+use Rattle.sia_events.specs.Lists.{ListsAscending}
 use Rattle.sia_index.specs.declared.info.KeyVersion.{KeyVersion}
 use Rattle.sia_index.specs.Info.{IsKeyAt}
-use Rattle.sia_index.specs.Positions.{ArePositions, IsAtPosition, IsVersion}
+use Rattle.sia_index.specs.Positions.{ArePositions, IsAtPosition}
 use Rattle.sia_graph.specs.Late.{AreLastBefore, IsMarkedBefore, IsMarkedOver, AreLate, ArePassedMarks, AreSeenMarks, EntersAt, IsLookAt, StandsAt}
 use Rattle.sia_graph.proofs.Shared.Numbered.{commits_at, txn_number}
 use Rattle.sia_graph.proofs.Shared.EarlierSources.{positions_below}
@@ -32,25 +28,9 @@ use Rattle.sia_graph.proofs.Shared.Facts.{lifetime_of}
 use Rattle.sia_graph.proofs.SsiTest.Marks.{none_marked}
 use Rattle.sia_graph.proofs.Shared.NoStuckSet.{rw_unseen}
 use Rattle.sia_graph.proofs.SsiTest.Stands.{look_at}
-use Rattle.sia_graph.proofs.Shared.PositionEdges.{look_of_rw, rw_from_look}
+use Rattle.sia_graph.proofs.Shared.PositionEdges.{look_of_rw, rw_from_look, keys_rise}
 
 module _ (h : List Event) where
-  abbrev rank : KeyVersion → List ℕ
-  rank v = v.key ∷ v.commit ∷ []
-
-  -- keys don't descend along the positions
-  keys_most : (p q : ℕ) (v w : KeyVersion) → IsAtPosition h p v → IsAtPosition h q w → p < q → v.key ≤ w.key
-  keys_most p q v w at other less =
-      let there : slice_get at.0 q ≡ _ = ap (λ (xs : List KeyVersion). slice_get xs q) (one_list_by rank (IsVersion h) at.0 other.0 at.1 other.1) ∙ other.2 in
-      let before = at.1.ascending p q v less (slice_get_within at.0 q w there) in
-      let a = get_or_from_slice_get at.0 p v v at.2 in
-      let b = get_or_from_slice_get at.0 q w v there in
-      of_ranks (subst (λ x. Precedes (rank x) (rank w)) a (subst (λ x. Precedes (rank (get_or at.0 p v)) (rank x)) b before))
-    where
-      of_ranks : Precedes (rank v) (rank w) → v.key ≤ w.key
-      of_ranks (inl key) = omega arith
-      of_ranks (inr rest) = let e = rest.0 in omega arith
-
   -- version 0 of the key stands before a version
   pub zero_before : (q : ℕ) (w : KeyVersion) → IsAtPosition h q w → 0 < w.commit → (p : ℕ) × (p < q) × IsAtPosition h p (record { key = w.key; commit = 0; txn = 0 })
   zero_before q w at some =
@@ -58,17 +38,13 @@ module _ (h : List Event) where
       let p = position_of h at.0 at.1 zero (inl ((w.txn, (commits_at h q w at some).0), refl, refl)) in
       (p.0, positions_less h p.0 q zero w p.1 at refl some, p.1)
 
-  -- so it isn't the first, and what stands right before it is of the same key
-  none_first : (w : KeyVersion) → IsAtPosition h 0 w → ¬ (0 < w.commit)
-  none_first w at some = let p = zero_before 0 w at some in let l = p.1 in omega arith
-
   same_key : (q : ℕ) (v w : KeyVersion) → IsAtPosition h q v → IsAtPosition h (q + 1) w → 0 < w.commit → v.key ≡ w.key
   same_key q v w at other some =
       let p = zero_before (q + 1) w other some in
       let zero : KeyVersion = record { key = w.key; commit = 0; txn = 0 } in
-      let most = keys_most q (q + 1) v w at other (omega arith) in
+      let most = keys_rise h q (q + 1) v w at other (omega arith) in
       elim (cases_lt p.0 q) [
-        | inl less ↦ let least = keys_most p.0 q zero v p.2 at less in omega arith
+        | inl less ↦ let least = keys_rise h p.0 q zero v p.2 at less in omega arith
         | inr last ↦
             let here : p.0 ≡ q = omega arith in
             sym (ap (λ (x : KeyVersion). x.key) (one_at h q zero v (subst (λ r. IsAtPosition h r zero) here p.2) at))
@@ -87,7 +63,7 @@ module _ (h : List Event) where
       long = refl;
       left = λ p from. refl;
       each = λ p v below. absurd (omega arith);
-      here = λ v at some. absurd (none_first v at some);
+      here = λ v at some. absurd (let p = zero_before 0 v at some in let l = p.1 in omega arith);
     }
 
     pub last_more : (q : ℕ) (late : List ℕ) (last at_last next : ℕ) → (v : KeyVersion) → (at : IsAtPosition h q v) → q < length late → HasLastTo q late last
@@ -146,8 +122,7 @@ module _ (h : List Event) where
               | inl made ↦ let e = kept made in let l = (has.here v at made x positive).1 (inr (m.0, key, m.2)) in inl (omega arith)
               | inr zero ↦
                   let n = anew (omega arith) in
-                  let one : m.0 ≡ n.0 = one_key_number h m.0 n.0 v.key key n.1 in
-                  inl ((n.2 x positive).1 (subst (λ j. IsMarkedOver size most j x) one m.2))
+                  inl ((n.2 x positive).1 (subst (λ j. IsMarkedOver size most j x) (one_key_number h m.0 n.0 v.key key n.1) m.2))
             ]
 
     pub last_all : (q : ℕ) (late : List ℕ) (last : ℕ) → ArePositions h (length seen) → length seen ≡ q → HasLastTo q late last → AreLastBefore h size seen most late
@@ -196,8 +171,7 @@ module _ (h : List Event) (wf : IsWellFormed h) (kept : IsolationKept h) where
           by_stand (inl here) =
               let same : w ≡ u.0 = one_at h p w u.0 (subst (λ n. IsAtPosition h n w) here.0 there) u.1 in
               let ukey : u.0.key ≡ v.key = sym (ap (λ (x : KeyVersion). x.key) same) ∙ key in
-              let c = ap (λ (x : KeyVersion). x.commit) same in
-              let less : u.0.commit < v.commit = let early = earlier in omega arith in
+              let less : u.0.commit < v.commit = let early = earlier in omega (arith, ap (λ (x : KeyVersion). x.commit) same) in
               let seen : Looked h r v.key u.0.commit = subst (λ k. Looked h r k u.0.commit) ukey u.2 in
               let other : r ≢ v.txn = λ own.
               let next = own_next r v.key u.0.commit v.commit seen (subst (λ t. CommitsVersion h v.key t v.commit) (sym own) made) less in
@@ -208,8 +182,7 @@ module _ (h : List Event) (wf : IsWellFormed h) (kept : IsolationKept h) where
               let second = one_at h e own.1 w own.3 there in
               let next : IsNextVersion h u.0.key u.0.commit w.txn = subst (λ (x : KeyVersion). IsNextVersion h u.0.key u.0.commit x.txn) second (subst (λ (x : KeyVersion). IsNextVersion h x.key x.commit own.1.txn) first own.6) in
               let ukey : u.0.key ≡ v.key = sym (ap (λ (x : KeyVersion). x.key) first) ∙ sym own.4 ∙ ap (λ (x : KeyVersion). x.key) second ∙ key in
-              let positive : 0 < w.commit = subst (λ (x : KeyVersion). 0 < x.commit) second own.5 in
-              let makes = commits_at h e w there positive in
+              let makes = commits_at h e w there (subst (λ (x : KeyVersion). 0 < x.commit) second own.5) in
               let c = one_commit h wf w.txn next.0 w.commit next.1.1 makes.1 in
               let is : r ≡ w.txn = one_txn_at h i r w.txn num (subst (λ (x : KeyVersion). IsCommittedAt h i x.txn) second own.7) in
               let other : r ≢ v.txn = λ same. let early = earlier in let z = one_commit h wf v.txn w.commit v.commit (subst (λ t. CommitsAt h t w.commit) (sym is ∙ same) makes.1) made.1 in let no : ⊥ = omega arith in no in
@@ -223,8 +196,7 @@ module _ (h : List Event) (wf : IsWellFormed h) (kept : IsolationKept h) where
           let first = one_at h p own.0 u own.2 there in
           let next = subst (λ (x : KeyVersion). IsNextVersion h x.key x.commit own.1.txn) first own.6 in
           let wkey : own.1.key ≡ v.key = own.4 ∙ ap (λ (x : KeyVersion). x.key) first ∙ key in
-          let makes = commits_at h e own.1 own.3 own.5 in
-          let c = one_commit h wf own.1.txn next.0 own.1.commit next.1.1 makes.1 in
+          let c = one_commit h wf own.1.txn next.0 own.1.commit next.1.1 (commits_at h e own.1 own.3 own.5).1 in
           let most = next.3 v.txn v.commit (subst (λ k. CommitsVersion h k v.txn v.commit) (sym key) made) less in
           let is : r ≡ own.1.txn = one_txn_at h i r own.1.txn num own.7 in
           let before : own.1.commit < v.commit = grind (arith, positions_less, one_at, commits_at, one_commit, made, one_txn_at, cases_lt, one_committer) in
@@ -274,8 +246,7 @@ module _ (h : List Event) (wf : IsWellFormed h) (kept : IsolationKept h) where
                       let zero = zero_before h q v at some in
                       let none : KeyVersion = record { key = v.key; commit = 0; txn = 0 } in
                       let own : ¬ IsFirstMaker h j i = λ first.
-                      let l = by_stand zero.0 none zero.2 refl some (inr (j, none, (missed, first), zero.2, p.2.key.1, refl)) in
-                      let no : ⊥ = omega arith in
+                      let no : ⊥ = omega (arith, by_stand zero.0 none zero.2 refl some (inr (j, none, (missed, first), zero.2, p.2.key.1, refl))) in
                       no in
                       elim (keys j v.key p.2.key.1) [
                         | inl none ↦ absurd (sized i j none missed)

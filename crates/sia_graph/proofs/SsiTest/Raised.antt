@@ -1,9 +1,8 @@
 -- Numbers that are raised at places.
-use Rattle.std.proofs.Common.{◌≡◌, ◌⊎◌, inl, inr, ℕ, ◌+◌, ◌<◌, ◌≤◌, List, [], ◌∷◌, ◌++◌, length, max, get_or, set, take, refl, sym, subst, ◌∙◌, arith}
-use Rattle.std.specs.Prelude.{◌↔◌, Contains}
+use Rattle.std.proofs.Common.{◌≡◌, ◌⊎◌, inl, inr, ℕ, ◌+◌, ◌<◌, ◌≤◌, List, ◌∷◌, length, max, get_or, set, take, refl, subst, ◌∙◌, arith, ◌↔◌, Contains}
 use Rattle.std.proofs.lemmas.Bool.{cases_eq, cases_lt}
-use Rattle.std.proofs.lemmas.List.{get_or-set_other, get_or-set_same, length-set, take_all, take_more}
-use Rattle.std.proofs.lemmas.List.Elements.{Contains-append_left, Contains-push, Contains-push_cases}
+use Rattle.std.proofs.lemmas.List.{get_or-set_other, get_or-set_same, length-set, take_all}
+use Rattle.sia_graph.proofs.Shared.Positions.{first_cases}
 
 -- one number
 pub raised_at : (table : List ℕ) (at to : ℕ) → at < length table → (q x : ℕ) → (x ≤ get_or (set table at (max (get_or table at 0) to)) q 0) ↔ ((x ≤ get_or table q 0) ⊎ ((at ≡ q) × (x ≤ to)))
@@ -21,22 +20,13 @@ pub raised_more : (old places : List ℕ) (n d to : ℕ) (table : List ℕ) → 
     → HasRaised old places (n + 1) to (set table (get_or places n d) (max (get_or table (get_or places n d) 0) to))
 raised_more old places n d to table below inside before =
     let at = get_or places n d in
-    let first = take n places in
-    let more = take_more places n d below in
     record {
       long = length-set table at (max (get_or table at 0) to) ∙ before.long;
       each = λ q x.
           let now = raised_at table at to (let l = before.long in omega arith) q x in
-          let was = before.each q x in (
-            (λ l. elim (now.0 l) [
-              | inl under ↦ elim (was.0 under) [ inl o ↦ inl o | inr c ↦ inr (subst (λ (xs : List ℕ). Contains xs q) (sym more) (Contains-append_left first (at ∷ []) q c.0), c.1) ]
-              | inr here ↦ inr (subst (λ (xs : List ℕ). Contains xs q) (sym more) (subst (Contains (first ++ at ∷ [])) here.0 (Contains-push first at)), here.1)
-            ]),
-            (λ e. now.1 (elim e [
-              | inl o ↦ inl (was.1 (inl o))
-              | inr c ↦ elim (Contains-push_cases first at q (subst (λ (xs : List ℕ). Contains xs q) more c.0)) [ inl b ↦ inl (was.1 (inr (b, c.1))) | inr same ↦ inr (same, c.1) ]
-            ])),
-          );
+          let was = before.each q x in
+          let more = first_cases places n d q below in
+          grind arith;
     }
 
 pub raised_all : (old places : List ℕ) (n to : ℕ) (table : List ℕ) → length places ≤ n → HasRaised old places n to table

@@ -1,9 +1,8 @@
 -- Where transactions stand, look by look.
-use Rattle.std.proofs.Common.{◌≡◌, ◌⊎◌, inl, inr, ℕ, ◌+◌, ◌<◌, ◌≤◌, List, [], ◌∷◌, length, max, get_or, set, take, refl, sym, subst, ◌∙◌, arith}
+use Rattle.std.proofs.Common.{◌≡◌, ◌⊎◌, inl, inr, ℕ, ◌+◌, ◌<◌, ◌≤◌, List, ◌∷◌, length, max, get_or, set, take, refl, sym, subst, ◌∙◌, arith}
 use Rattle.std.specs.Prelude.{◌↔◌, ⊤, Contains}
 use Rattle.std.proofs.lemmas.Bool.{cases_order}
-use Rattle.std.proofs.lemmas.List.{length-set, take_more, take_all}
-use Rattle.std.proofs.lemmas.List.Elements.{Contains-append_left, Contains-push, Contains-push_cases}
+use Rattle.std.proofs.lemmas.List.{length-set, take_all}
 use Rattle.sia_events.specs.declared.event.Event.{Event}
 use Rattle.sia_events.specs.NarrowDependencies.{IsNextVersion, Looked}
 use Rattle.sia_index.specs.declared.info.KeyVersion.{KeyVersion}
@@ -19,6 +18,7 @@ use Rattle.sia_graph.proofs.Shared.MakersTold.{next_told, none_next}
 use Rattle.sia_graph.proofs.SsiTest.Raised.{raised_at}
 use Rattle.sia_parts.proofs.EdgeRows.PositionOrder.{by_commit as commits_less, one_version as one_at}
 use Rattle.sia_parts.proofs.Shared.OneNumber.{one_key as one_key_at, one_committed as one_txn_at}
+use Rattle.sia_graph.proofs.Shared.Positions.{first_cases}
 
 -- one position has the version of a key at a commit
 pub one_position : (h : List Event) (p q : ℕ) (v w : KeyVersion) → IsAtPosition h p v → IsAtPosition h q w → v.key ≡ w.key → v.commit ≡ w.commit → p ≡ q
@@ -75,12 +75,8 @@ module _ (h : List Event) (i : ℕ) where
   pub seen_more : (saw : List ℕ) (n d : ℕ) (old table : List ℕ) (to e : ℕ) → n < length saw → IsRaised h i (IsSeenFirst saw n) old table to → e < length table → StandsAt h i (get_or saw n d) e
       → IsRaised h i (IsSeenFirst saw (n + 1)) old (set table e (max (get_or table e 0) to)) to
   seen_more saw n d old table to e below raised inside here =
-      let p = get_or saw n d in
-      let more = take_more saw n d below in
-      raised_more (IsSeenFirst saw n) (IsSeenFirst saw (n + 1)) old table to p e raised inside here
-      (λ q c. subst (λ (xs : List ℕ). Contains xs q) (sym more) (Contains-append_left (take n saw) (p ∷ []) q c))
-      (subst (λ (xs : List ℕ). Contains xs p) (sym more) (Contains-push (take n saw) p))
-      (λ q c. Contains-push_cases (take n saw) p q (subst (λ (xs : List ℕ). Contains xs q) more c))
+      raised_more (IsSeenFirst saw n) (IsSeenFirst saw (n + 1)) old table to (get_or saw n d) e raised inside here
+      (λ q c. (first_cases saw n d q below).1 (inl c)) ((first_cases saw n d (get_or saw n d) below).1 (inr refl)) (λ q. (first_cases saw n d q below).0)
 
   pub seen_all : (saw own : List ℕ) (n : ℕ) (old table : List ℕ) (to : ℕ) → length saw ≤ n → IsRaised h i (IsSeenFirst saw n) old table to → IsRaised h i (IsOwnFirst saw own 0) old table to
   seen_all saw own n old table to all raised = grind (arith, raised_same, take_all)
@@ -89,16 +85,12 @@ module _ (h : List Event) (i : ℕ) where
       → IsAtPosition h p v → IsKeyAt h (get_or own n d) v.key → v.commit ≡ 0 → StandsAt h i p e → IsRaised h i (IsOwnFirst saw own (n + 1)) old (set table e (max (get_or table e 0) to)) to
   own_more saw own n d old table to p e v below raised inside at key zero here =
       let j = get_or own n d in
-      let more = take_more own n d below in
       raised_more (IsOwnFirst saw own n) (IsOwnFirst saw own (n + 1)) old table to p e raised inside here
-      (λ q o. elim o [
-        | inl c ↦ inl c
-        | inr w ↦ inr (w.0, w.1, subst (λ (xs : List ℕ). Contains xs w.0) (sym more) (Contains-append_left (take n own) (j ∷ []) w.0 w.2), w.3, w.4, w.5)
-      ])
-      (inr (j, v, subst (λ (xs : List ℕ). Contains xs j) (sym more) (Contains-push (take n own) j), at, key, zero))
+      (λ q o. elim o [ inl c ↦ inl c | inr w ↦ inr (w.0, w.1, (first_cases own n d w.0 below).1 (inl w.2), w.3, w.4, w.5) ])
+      (inr (j, v, (first_cases own n d j below).1 (inr refl), at, key, zero))
       (λ q o. elim o [
         | inl c ↦ inl (inl c)
-        | inr w ↦ elim (Contains-push_cases (take n own) j w.0 (subst (λ (xs : List ℕ). Contains xs w.0) more w.2)) [
+        | inr w ↦ elim ((first_cases own n d w.0 below).0 w.2) [
           | inl before ↦ inl (inr (w.0, w.1, before, w.3, w.4, w.5))
           | inr same ↦ inr (one_position h p q v w.1 at w.3 (one_key_at h j v.key w.1.key key (subst (λ k. IsKeyAt h k w.1.key) (sym same) w.4)) (zero ∙ sym w.5))
         ]

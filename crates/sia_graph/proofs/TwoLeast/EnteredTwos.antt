@@ -275,10 +275,9 @@ module _ (h : List Event) (wf : IsWellFormed h) (entries : List (ℕ × ℕ)) (f
       → (d e : Two) (mid new : Two) → IsWith (get_or twos q d) (get_or twos b e).least mid → IsWith mid (get_or twos b e).next new → IsUpRun h entries (q + 1) (set twos q new)
   run_next b before d e mid new one next =
       let up = up_to_next h wf (At entries) q v at b before in
-      let less = before.5 in
       let is : IsTwo (IsUpTo h (At entries) q) new =
       two_merged (At entries q) (IsUpTo h (At entries) b) (IsUpTo h (At entries) q) (few q) (λ r u. few u.0 r u.3) (λ r p. (up r).1 (inl p)) (λ r u. (up r).1 (inr u)) (λ r u. (up r).0 u)
-      (get_or twos q d) (get_or twos b e) mid new one next (run.above q d (omega arith) inside) (run.below b e less (omega arith)) in
+      (get_or twos q d) (get_or twos b e) mid new one next (run.above q d (omega arith) inside) (run.below b e before.5 (omega arith)) in
       let long = length-set twos q new in
       record {
         below = λ p f l m. elim (cases_eq p q) [

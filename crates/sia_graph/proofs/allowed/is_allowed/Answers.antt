@@ -1,5 +1,4 @@
-use Rattle.std.proofs.Common.{◌≡◌, ◌⊎◌, inl, inr, ◌+◌, ◌<◌, length, refl, subst, arith}
-use Rattle.std.specs.Prelude.{◌↔◌, IsTrue}
+use Rattle.std.proofs.Common.{◌≡◌, ◌⊎◌, inl, inr, ◌+◌, ◌<◌, length, refl, subst, arith, ◌↔◌, IsTrue}
 use Rattle.std.proofs.lemmas.Bool.{cases_lt}
 use Rattle.std.proofs.lemmas.Option.{slice_get_within}
 use Rattle.sia_events.proofs.Shared.Faults.{true_false}
@@ -14,15 +13,12 @@ returns-then-is_rw_overlap-2 c =
     let edges = c.args.edges.now in
     let i = c.loop-i.i in
     let next = c.if-i-edges.next in
-    let inside = c.loop-i-test.true in
     let at : (next < length edges) × ((next ≡ i + 1) ⊎ ((i + 1 ≡ length edges) × (next ≡ 0))) = elim c.if-i-edges.branch [
       | then-i-edges w ↦ let on = w.if-i-edges.true in let is = w.next-is in (omega arith, inl is)
       | else-i-edges w ↦ let past = w.if-i-edges.false in let is = w.next-is in (omega arith, inr (omega arith, is))
     ] in
-    let both = both_at h edges i next inside at.0 at.1 in
-    let one : IsTrue c.is_rw_overlap.result ↔ IsRwOverlap h (edge_at edges i) = c.is_rw_overlap.ensures in
     let other : IsTrue c.is_rw_overlap-then-is_rw_overlap.result ↔ IsRwOverlap h (edge_at edges next) = c.is_rw_overlap-then-is_rw_overlap.ensures in
-    ((λ yes. (i, both.1 (one.0 c.if-is_rw_overlap.true, other.0 c.if-is_rw_overlap-2.true))), (λ is. refl))
+    ((λ yes. (i, (both_at h edges i next c.loop-i-test.true at.0 at.1).1 (c.is_rw_overlap.ensures.0 c.if-is_rw_overlap.true, other.0 c.if-is_rw_overlap-2.true))), (λ is. refl))
 
 pub loop-i-preserved : goal.loop-i-preserved
 loop-i-preserved c = λ j below is. elim (cases_lt j c.loop-i.i) [
@@ -39,12 +35,10 @@ loop-i-preserved c = λ j below is. elim (cases_lt j c.loop-i.i) [
       ] in
       let same : j ≡ i = omega arith in
       let here = subst (IsAllowedAt h edges) same is in
-      let one : IsTrue c.is_rw_overlap.result ↔ IsRwOverlap h (edge_at edges i) = c.is_rw_overlap.ensures in
       elim c.else-is_rw_overlap.branch [
         | else-is_rw_overlap-via-then-is_rw_overlap+else-is_rw_overlap-2 w ↦
-            let other : IsTrue w.is_rw_overlap-then-is_rw_overlap.result ↔ IsRwOverlap h (edge_at edges next) = w.is_rw_overlap-then-is_rw_overlap.ensures in
-            absurd (true_false _ (other.1 ((both_at h edges i next inside at.0 at.1).0 here).1) w.if-is_rw_overlap-2.false)
-        | else-is_rw_overlap-via-else-is_rw_overlap w ↦ absurd (true_false _ (one.1 (at_it h edges i inside here)) w.if-is_rw_overlap.false)
+            absurd (true_false _ (w.is_rw_overlap-then-is_rw_overlap.ensures.1 ((both_at h edges i next inside at.0 at.1).0 here).1) w.if-is_rw_overlap-2.false)
+        | else-is_rw_overlap-via-else-is_rw_overlap w ↦ absurd (true_false _ (c.is_rw_overlap.ensures.1 (at_it h edges i inside here)) w.if-is_rw_overlap.false)
       ]
 ]
 

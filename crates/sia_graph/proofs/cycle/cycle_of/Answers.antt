@@ -1,6 +1,5 @@
-use Rattle.std.specs.Prelude.{MatchOption, unwrap_or}
 use Rattle.std.specs.List.{AllWithin, HoldsAt}
-use Rattle.std.proofs.Common.{◌≡◌, ◌⊎◌, inl, inr, ℕ, Bool, true, false, List, Option, sym, ◌+◌, ◌<◌, ◌≤◌, length, ap, get_or, refl, reverse, subst, ◌∙◌, arith}
+use Rattle.std.proofs.Common.{◌≡◌, ◌⊎◌, inl, inr, ℕ, Bool, true, false, List, Option, sym, ◌+◌, ◌<◌, ◌≤◌, length, ap, get_or, refl, reverse, subst, ◌∙◌, arith, MatchOption, unwrap_or}
 use Rattle.std.proofs.lemmas.Bool.{cases_lt}
 use Rattle.sia_graph.specs.Previous.{IsLeftIn}
 use Rattle.sia_graph.specs.Searched.{IsEdgeIn, IsMemberIn}
@@ -146,10 +145,9 @@ returns c =
     let inside : start < length ids = let a = first.0 in let b = c.requires.long.0 in omega arith in
     let before = (goal.at.returns c).In_ok-steps in
     let v = (home_is (goal.at.returns c).After-round).0 in
-    let home = homed (goal.at.returns c).After-loop c.round.home v.0 v.2 in
     let part = c.walk.invariant in
     let made = λ (leads : LeadsBack r.0 ids E previous c.round.home). subst (λ (l : List Step). GoesRoundFrom r.0 E (get_or ids c.round.home 0) l) (sym (c.reverse.ensures.items ∙ ap reverse c.in_ok-push.ensures.items))
     (round_made ids c.requires.ascending E previous c.requires.long.1 (within (goal.at.returns c).After-unwrap_or-place) c.round.home (home_inside before) part.0 part.2 (least_is before)
     c.walk.steps.items c.walk.at part.3 c.least_step.result c.least_step.ensures.from c.least_step.ensures.least c.if-before-home.true r.0 leads) in
     printed ids E L previous c.requires.ascending r.0 r.2 (IsMemberIn ids c.args.edges.now) start (length previous + v.0) c.round.home c.reverse.new.self.items
-    (previous_are (goal.at.returns c).After-unwrap_or-place) inside first.1 first.2 home made r.1
+    (previous_are (goal.at.returns c).After-unwrap_or-place) inside first.1 first.2 (homed (goal.at.returns c).After-loop c.round.home v.0 v.2) made r.1

@@ -1,5 +1,4 @@
-use Rattle.std.proofs.Common.{◌≢◌, ◌<◌, ◌≤◌, ℕ, List, sym, subst, arith}
-use Rattle.std.specs.Prelude.{◌↔◌, Contains}
+use Rattle.std.proofs.Common.{◌≢◌, ◌<◌, ◌≤◌, ℕ, List, sym, subst, arith, ◌↔◌, Contains}
 use Rattle.sia_events.specs.Dependencies.{WrEdge, WwEdge}
 use Rattle.sia_index.specs.Numbers.{IsCommittedAt}
 use Rattle.sia_parts.specs.Accesses.{SawPosition}

@@ -1,6 +1,5 @@
-use Rattle.std.proofs.Common.{◌≡◌, ◌<◌, true, false, get_or, length, ltb, subst, sym, ◌∙◌, arith}
+use Rattle.std.proofs.Common.{◌≡◌, ◌<◌, true, false, get_or, length, ltb, subst, sym, ◌∙◌, arith, ltb-true}
 use Rattle.std.specs.List.Sorted.{IsPartitionPoint}
-use Rattle.std.proofs.lemmas.Bool.{ltb-true}
 use Rattle.std.proofs.lemmas.List.{get_or_default}
 use Rattle.std.proofs.lemmas.List.Elements.{Contains-get_or}
 use Rattle.sia_index.specs.Positions.{HasPosition, IsAtPosition}
@@ -28,8 +27,7 @@ key_at-requires c =
     let made = c.args.made.now in
     let place = c.place_from.result in
     let v = (c.requires.1.each (get_or made place 0)).0 (Contains-get_or made place 0 (below at)) in
-    let there : HasPosition c.args.index.now (get_or made place 0) = (v.0, v.1) in
-    subst (HasPosition c.args.index.now) (sym (is at)) there
+    subst (HasPosition c.args.index.now) (sym (is at)) (v.0, v.1)
 
 pub returns-in-Some : goal.returns-in-Some
 returns-in-Some c =
@@ -45,5 +43,4 @@ returns-in_default c =
     let at = (goal.at.returns-in_default c).In-Some in
     let made = c.args.made.now in
     let place = c.place_from.result in
-    let e = is at in
-    none_before c.args.index.now made c.requires c.args.from place (point (goal.at.returns-in_default c).After-place_from) c.args.to (below at) (omega arith)
+    none_before c.args.index.now made c.requires c.args.from place (point (goal.at.returns-in_default c).After-place_from) c.args.to (below at) (omega (arith, is at))

@@ -1,5 +1,4 @@
-use Rattle.std.proofs.Common.{◌+◌, ℕ, List, get_or, take, sym, subst, arith}
-use Rattle.std.proofs.lemmas.List.{take_all}
+use Rattle.std.proofs.Common.{◌+◌, ℕ, List, get_or, take, sym, subst, arith, take_all}
 use Rattle.sia_parts.specs.Sights.{FromSome}
 use Rattle.sia_graph.specs.LeastEdges.{IsMet}
 use Rattle.sia_graph.specs.Twos.{IsLeastNumber}

@@ -1,6 +1,4 @@
-use Rattle.std.proofs.Common.{◌⊎◌, inl, inr, ℕ, List, get_or, min, sym, subst, arith}
-use Rattle.std.specs.Prelude.{◌↔◌, Contains}
-use Rattle.std.proofs.lemmas.List.{take_all}
+use Rattle.std.proofs.Common.{◌⊎◌, inl, inr, ℕ, List, get_or, min, sym, subst, arith, ◌↔◌, Contains, take_all}
 use Rattle.sia_events.specs.Dependencies.{RwEdge}
 use Rattle.sia_parts.specs.Accesses.{HasMiss, SawPosition}
 use Rattle.sia_parts.specs.Sights.{FromSome}

@@ -35,17 +35,15 @@ bounds-list-i c =
 pub overflow_cast-before : goal.overflow_cast-before
 overflow_cast-before c =
     let ids = c.args.ids.now in
-    let b = c.requires.within.0 in
     let can = subst (CanFind ids) c.in-Seen.is c.requires.can in
-    let few = few_committed c.in-Seen.evidence.now.index.now can.1.well_formed c.args.before (get_or ids c.args.before 0) (ids, can.0, b, refl) in
+    let few = few_committed c.in-Seen.evidence.now.index.now can.1.well_formed c.args.before (get_or ids c.args.before 0) (ids, can.0, c.requires.within.0, refl) in
     omega arith
 
 pub overflow_cast-at : goal.overflow_cast-at
 overflow_cast-at c =
     let ids = c.args.ids.now in
-    let b = c.requires.within.1 in
     let can = subst (CanFind ids) c.in-Seen.is c.requires.can in
-    let few = few_committed c.in-Seen.evidence.now.index.now can.1.well_formed c.args.at (get_or ids c.args.at 0) (ids, can.0, b, refl) in
+    let few = few_committed c.in-Seen.evidence.now.index.now can.1.well_formed c.args.at (get_or ids c.args.at 0) (ids, can.0, c.requires.within.1, refl) in
     omega arith
 
 pub least_edge-kind-requires-clause-leads : goal.least_edge-kind-requires-clause-leads

@@ -1,5 +1,4 @@
-use Rattle.std.proofs.Common.{◌<◌, ◌≤◌, ◌+◌, inl, inr, refl, subst, sym, arith}
-use Rattle.std.specs.Prelude.{◌↔◌}
+use Rattle.std.proofs.Common.{◌<◌, ◌≤◌, ◌+◌, inl, inr, refl, subst, sym, arith, ◌↔◌}
 use Rattle.std.proofs.lemmas.Bool.{cases_lt}
 use Rattle.sia_parts.proofs.Shared.FewNumbers.{few_keys}
 use Rattle.sia_parts.specs.declared.finding.Kind.{Kind}
@@ -13,8 +12,7 @@ use Rattle.sia_graph.proofs.cycle.span_met.Goals as goal
 pub overflow_add-key : goal.overflow_add-key
 overflow_add-key c =
     let v = c.requires in
-    let few = few_keys c.args.index.now c.law.ensures c.key_at-key.result v.0.key (c.key_at-key.ensures v.0 v.1) in
-    omega arith
+    omega (arith, few_keys c.args.index.now c.law.ensures c.key_at-key.result v.0.key (c.key_at-key.ensures v.0 v.1))
 
 its_key : (c : After-first_or_end-end) → IsKeyOf c.args.index.now c.args.position c.key_at-key.result
 its_key c = let v = c.requires in (v.0, v.1, c.key_at-key.ensures v.0 v.1)

@@ -7,8 +7,7 @@ pub returns-then-j : goal.returns-then-j
 returns-then-j c kept = elim c.then-j.branch [
   | then-j-via-then-j w ↦ (c.requires.judgement.pass.0 w.if-j.true).1
   | then-j-via-else-j+then-not-is_kept w ↦
-      let same = kept_where c.args.ix.now c.args.j.now c.requires.judgement in
-      absurd (both_ways _ w.if-not-is_kept.true (w.is_kept.ensures.1 (same.1 kept)))
+      absurd (both_ways _ w.if-not-is_kept.true (w.is_kept.ensures.1 ((kept_where c.args.ix.now c.args.j.now c.requires.judgement).1 kept)))
 ]
 
 pub dangerous_of-requires-clause-kept : goal.dangerous_of-requires-clause-kept

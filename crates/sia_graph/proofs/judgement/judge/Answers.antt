@@ -1,6 +1,4 @@
-use Rattle.std.proofs.Common.{◌≡◌, ◌↔◌, ◌∙◌, [], ◌==◌, ℕ, Bool, List, length, sym, subst, arith}
-use Rattle.std.specs.Prelude.{IsTrue}
-use Rattle.std.proofs.lemmas.Bool.{eq-eqb, eqb-true}
+use Rattle.std.proofs.Common.{◌≡◌, ◌↔◌, ◌∙◌, [], ◌==◌, ℕ, Bool, List, length, sym, subst, arith, IsTrue, eq-eqb, eqb-true}
 use Rattle.std.proofs.lemmas.List.{nil_from_length}
 use Rattle.sia_events.proofs.Shared.Faults.{true_false}
 use Rattle.sia_parts.specs.declared.finding.Unexplained.{Unexplained}

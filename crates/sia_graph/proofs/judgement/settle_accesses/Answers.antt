@@ -29,9 +29,7 @@ members : (c : In_ok-order) → IsTaken (IsCommitted c.args.evidence.now.index.n
 members c =
     let h = c.args.evidence.now.index.now in
     let txns = c.committed-txns.result.now in
-    let size = c.size_for-size.result in
-    let graph = c.in_ok-graph.graph in
-    taken_members (IsCommitted h) (IsEdge h) size txns graph
+    taken_members (IsCommitted h) (IsEdge h) c.size_for-size.result txns c.in_ok-graph.graph
     (of_history h _ _ _ _ (c.in_ok-graph.ensures txns c.committed-txns.ensures).stands) c.in_ok-order.field-0 c.in_ok-order.ensures
 
 pub returns-in-Whole : goal.returns-in-Whole
@@ -55,8 +53,7 @@ left_is c =
 pub overflow_cast-txn : goal.overflow_cast-txn
 overflow_cast-txn c =
     let w = left_is (goal.at.overflow_cast-txn c).In-Rest in
-    let few = few_txns c.args.evidence.now.index.now c.requires.evidence.well_formed w.0 w.1 in
-    omega arith
+    omega (arith, few_txns c.args.evidence.now.index.now c.requires.evidence.well_formed w.0 w.1)
 
 pub least_source-source-requires-clause-me : goal.least_source-source-requires-clause-me
 least_source-source-requires-clause-me c =

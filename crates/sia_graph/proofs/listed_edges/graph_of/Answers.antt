@@ -1,5 +1,4 @@
-use Rattle.std.proofs.Common.{◌≡◌, ◌≢◌, ◌+◌, ◌∷◌, ◌++◌, ◌<◌, [], ℕ, List, true, false, ltb, length, get_or, refl, ap, sym, subst, ◌∙◌, arith}
-use Rattle.std.specs.Prelude.{Contains}
+use Rattle.std.proofs.Common.{◌≡◌, ◌≢◌, ◌+◌, ◌∷◌, ◌++◌, ◌<◌, [], ℕ, true, false, length, get_or, refl, ap, sym, subst, ◌∙◌, arith, Contains}
 use Rattle.std.proofs.lemmas.List.Elements.{Contains-get_or}
 use Rattle.sia_parts.specs.declared.finding.Edge.{Edge}
 use Rattle.sia_parts.specs.declared.finding.Kind.TheVariants.{Ww}
@@ -9,7 +8,6 @@ use Rattle.sia_parts.proofs.Shared.Adding.{added_to_none, adds_push, from_all, f
 use Rattle.sia_parts.proofs.OfReasons.Groups.{group_between}
 use Rattle.sia_parts.proofs.OfReasons.InTwoNumbers.{group_holds}
 use Rattle.sia_graph.specs.ListedGraphs.{IsTargetOf}
-use Rattle.std.specs.List.Sorted.{IsPartitionPoint, IsStrictlyIncreasing}
 use Rattle.sia_graph.proofs.Shared.AscendingIds.{found_position, ids_rise, one_id}
 use Rattle.sia_graph.proofs.Settling.EdgesListed.{AreTargetsAt, all_in, graph_made, group_targets}
 use Rattle.sia_graph.proofs.Shared.RowLists.{AreLists, lists_more}
@@ -26,10 +24,6 @@ group c = grind (arith, group_between)
 pub place_from-requires : goal.place_from-requires
 place_from-requires c = ids_rise c.args.ids.now c.requires.ascending
 
--- the place of a member that a search finds
-found : (ids : List ℕ) (up : IsStrictlyIncreasing ids) (n m at : ℕ) → n ≡ m → IsPartitionPoint (λ x. ltb x n ≡ true) (λ x. ltb x n ≡ false) ids at → Contains ids m → (at < length ids) × (get_or ids at 0 ≡ m)
-found ids up n m at is point member = found_position ids up m at (subst (λ n. IsPartitionPoint (λ x. ltb x n ≡ true) (λ x. ltb x n ≡ false) ids at) is point) member
-
 -- where an edge leads is a member
 member : (c : After-between-edge-items) (n : ℕ) → n < length c.between-edge-items.result.now → Contains c.args.ids.now (get_or c.between-edge-items.result.now n none).dst
 member c n below =
@@ -45,7 +39,7 @@ loop-edge-preserved c =
     let own = c.between-edge-items.result.now in
     let i = c.loop-edge.edge-index in
     let q = c.place_from.result in
-    let at = found ids c.requires.ascending c.from.result (get_or own i none).dst q c.from.ensures c.place_from.ensures.point (member (goal.at.loop-edge-preserved c).After-between-edge-items i c.loop-edge-test.true) in
+    let at = found_position ids c.requires.ascending (get_or own i none).dst q (rw c.from.ensures at c.place_from.ensures.point) (member (goal.at.loop-edge-preserved c).After-between-edge-items i c.loop-edge-test.true) in
     let old = c.loop-edge.row.items in
     let P = IsTargetOf ids (get_or own i none) in
     from_more (IsTargetOf ids) own i none [] old c.push.new.self.items c.loop-edge-test.true c.loop-edge.invariant

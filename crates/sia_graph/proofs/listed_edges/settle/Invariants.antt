@@ -1,5 +1,4 @@
-use Rattle.std.proofs.Common.{◌≡◌, ℕ, get_or, length, take}
-use Rattle.std.specs.Prelude.{Contains}
+use Rattle.std.proofs.Common.{◌≡◌, ℕ, get_or, length, take, Contains}
 use Rattle.sia_graph.proofs.Settling.EdgesListed.{AreLeastFrom}
 use Rattle.sia_graph.proofs.listed_edges.settle.Given as goal
 

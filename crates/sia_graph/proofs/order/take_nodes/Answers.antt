@@ -1,6 +1,4 @@
-use Rattle.std.proofs.Common.{◌≡◌, ◌≢◌, ◌+◌, ◌-◌, ◌*◌, ◌<◌, ◌≤◌, ◌∷◌, ◌++◌, ℕ, [], Bool, true, false, not, cond, Ok, Vec, Global, List, drop, get_or, length, map, replicate, set, ap, sym, subst, ◌∙◌, arith, rules, tests}
-use Rattle.std.specs.Prelude.{◌↔◌, Contains}
-use Rattle.std.specs.Bool.{MatchBool}
+use Rattle.std.proofs.Common.{◌≡◌, ◌≢◌, ◌+◌, ◌-◌, ◌*◌, ◌<◌, ◌≤◌, ◌∷◌, ◌++◌, ℕ, [], Bool, true, false, not, cond, Ok, Vec, Global, List, drop, get_or, length, map, replicate, set, ap, sym, subst, ◌∙◌, arith, rules, tests, ◌↔◌, Contains, MatchBool}
 use Rattle.std.specs.List.{AllWithin, HoldsAt, range_with_len}
 use Rattle.std.proofs.lemmas.Bool.{cases_lt, le-ltb, lt-ltb}
 use Rattle.std.proofs.lemmas.Iterator.{YieldsList-from_map, YieldsList-from_slice, cases_from_all, items_from_collect}
@@ -97,12 +95,10 @@ finish-requires-clause-is c =
 pub loop-node-2-smaller : goal.loop-node-2-smaller
 loop-node-2-smaller c =
     let before = (goal.at.loop-node-2-smaller c).In-Some in
-    let l = within before in
-    fewer_left c.loop-node-2.done.items c.in-Some.node (omega arith) (left before).1
+    fewer_left c.loop-node-2.done.items c.in-Some.node (omega (arith, within before)) (left before).1
 
 pub loop-node-2-preserved : goal.loop-node-2-preserved
 loop-node-2-preserved c =
-    let before = (goal.at.loop-node-2-preserved c).In-Some in
     let is = c.loop-node-2.invariant in
     let n = many c.args.size c.args.txns.now in
     let g = c.args.graph.now in
@@ -116,7 +112,7 @@ loop-node-2-preserved c =
           (subst (λ d. IsTaking g d c.finish.new.self none_pending (length c.finish.new.self.counts.items)) c.deref-in-Some.ensures.value c.in_ok-finish.ensures.is),
       long,
       is.2 ++ t ∷ [],
-      front_taken n g c.requires.graph done k is.1 is.0 is.2 is.3 t (within before) c.in-Some.ensures.member c.in-Some.ensures.least,
+      front_taken n g c.requires.graph done k is.1 is.0 is.2 is.3 t (within (goal.at.loop-node-2-preserved c).In-Some) c.in-Some.ensures.member c.in-Some.ensures.least,
       elim c.if-node-floor.branch [
         | then-node-floor+in_ok-push w ↦
             ap items w.order-is ∙ member_more (2 * c.args.size) name is.2 t c.loop-node-2.order.items is.4 w.if-node-floor.true _ w.in_ok-push.ensures.items
@@ -140,13 +136,11 @@ cases c = cases_from_all _ _ _ (λ d. d ≡ true) (λ d. d ≡ false) c.all.ensu
 
 pub offset_bounds-txns-node : goal.offset_bounds-txns-node
 offset_bounds-txns-node c =
-    let l = within (goal.at.offset_bounds-txns-node c).In-Some in
-    omega arith
+    omega (arith, within (goal.at.offset_bounds-txns-node c).In-Some)
 
 pub bounds-txns-node : goal.bounds-txns-node
 bounds-txns-node c =
-    let l = within (goal.at.bounds-txns-node c).In-Some in
-    omega arith
+    omega (arith, within (goal.at.bounds-txns-node c).In-Some)
 
 pub returns-then-all : goal.returns-then-all
 returns-then-all c =

@@ -1,6 +1,5 @@
 -- The greatest commit of the ins, and of the outs the next that commits early enough.
-use Rattle.std.proofs.Common.{◌∷◌, ◌++◌, ◌+◌, ◌<◌, ◌≤◌, ◌∙◌, [], ℕ, List, length, get_or, map, refl, ap, arith, sym, subst}
-use Rattle.std.specs.Prelude.{◌↔◌, slice_index}
+use Rattle.std.proofs.Common.{◌∷◌, ◌++◌, ◌+◌, ◌<◌, ◌≤◌, ◌∙◌, [], ℕ, List, length, get_or, map, refl, ap, arith, sym, subst, ◌↔◌, slice_index}
 use Rattle.std.proofs.lemmas.List.{get_or-map, length-map, take_all}
 use Rattle.std.proofs.lemmas.List.Elements.{Contains-get_or}
 use Rattle.sia_events.specs.DangerousStructures.{IsFirst, IsVulnerable}
@@ -61,13 +60,12 @@ early c t at n below =
     let live = lived h lifetimes c.lifetimes-lifetimes.ensures in
     let link = get_or c.args.outs.now n none in
     let v = (c.requires.outs.each link).0 (Contains-get_or c.args.outs.now n none below) in
-    let from = one_txn_at h c.args.txn v.1.0 t (subst (λ m. IsCommittedAt h m v.1.0) v.0 v.1.2) at in
     let named = (txn_number h c.committed-txns.result.now c.committed-txns.ensures link.other v.1.1 v.1.3).1 in
     let ins = c.args.ins.now in
     let all = subst (λ (xs : List Link). IsLastOf (FromSome (CommitsIn lifetimes) xs) c.loop-into.last) (take_all c.loop-into.into-index ins (let e = c.loop-into-test.false in omega arith)) c.loop-into.invariant in
     let greatest = last_same (FromSome (CommitsIn lifetimes) ins) (EntersAt h t) c.loop-into.last (ins_commit h c.args.txn t at c.committed-txns.result.now c.committed-txns.ensures c.law.ensures lifetimes live ins c.requires.ins) all in
     rw (named, c.min-last.ensures) (first_by h c.law.ensures t _ c.loop-into.last ((live c.args.txn t at).1 unlived).1 greatest v.1.1 _
-    (subst (λ x. IsVulnerable h x v.1.1) from v.1.4) ((live link.other v.1.1 v.1.3).1 unlived).1)
+    (subst (λ x. IsVulnerable h x v.1.1) (one_txn_at h c.args.txn v.1.0 t (subst (λ m. IsCommittedAt h m v.1.0) v.0 v.1.2) at) v.1.4) ((live link.other v.1.1 v.1.3).1 unlived).1)
 
 pub loop-out-preserved : goal.loop-out-preserved
 loop-out-preserved c t at =
@@ -95,6 +93,5 @@ returns c t at =
     let outs = c.args.outs.now in
     let txns = c.committed-txns.result.now in
     let names = map (λ (link : Link). slice_index txns link.other) outs in
-    let are = outs_named h c.args.txn t at txns c.committed-txns.ensures outs c.requires.outs in
-    listed_as (λ u. u ∷ []) _ (IsFirst h t) (λ u. ((λ w. w.1), (λ is. ((are.each u).1 is.0, is)))) c.loop-out.firsts.items
+    listed_as (λ u. u ∷ []) _ (IsFirst h t) (λ u. ((λ w. w.1), (λ is. (((outs_named h c.args.txn t at txns c.committed-txns.ensures outs c.requires.outs).each u).1 is.0, is)))) c.loop-out.firsts.items
     (all_picked (λ u. u ∷ []) (IsFirst h t) names c.loop-out.out-index (let l = c.loop-out-test.false in omega (arith, length-map outs (λ (link : Link). slice_index txns link.other))) c.loop-out.firsts.items (c.loop-out.invariant t at))

@@ -1,5 +1,4 @@
-use Rattle.std.specs.Prelude.{◌≡◌, map, slice_index}
-use Rattle.std.proofs.Common.{take}
+use Rattle.std.proofs.Common.{take, ◌≡◌, map, slice_index}
 use Rattle.sia_graph.proofs.pivot.names.Given as goal
 
 abbrev pub invariant-loop-link : goal.invariant-loop-link

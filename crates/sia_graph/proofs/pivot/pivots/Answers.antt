@@ -1,6 +1,5 @@
 -- The link of the next edge, if that is vulnerable.
-use Rattle.std.proofs.Common.{◌≡◌, ◌∷◌, ◌++◌, ◌∙◌, ℕ, List, [], true, false, ltb, length, get_or, map, not, refl, ap, arith, sym, subst}
-use Rattle.std.specs.Prelude.{All, Contains}
+use Rattle.std.proofs.Common.{◌≡◌, ◌∷◌, ◌++◌, ◌∙◌, ℕ, List, [], true, false, ltb, length, get_or, map, not, refl, ap, arith, sym, subst, All, Contains}
 use Rattle.std.proofs.lemmas.Bool.{false≢true}
 use Rattle.std.proofs.lemmas.List.{map-append}
 use Rattle.std.proofs.lemmas.List.Elements.{All-push, Contains-get_or}
@@ -39,16 +38,14 @@ found h txns are n t at is point committed =
 
 pub overflow_cast-at : goal.overflow_cast-at
 overflow_cast-at c =
-    let few = few_txns c.args.ix.now c.law.ensures c.committed-txns.result.now c.committed-txns.ensures in
-    omega arith
+    omega (arith, few_txns c.args.ix.now c.law.ensures c.committed-txns.result.now c.committed-txns.ensures)
 
 pub place_from-other-requires : goal.place_from-other-requires
 place_from-other-requires c = ids_rise c.committed-txns.result.now (increasing c.committed-txns.result.now c.committed-txns.ensures.ascending)
 
 pub overflow_cast-other : goal.overflow_cast-other
 overflow_cast-other c =
-    let few = few_txns c.args.ix.now c.law.ensures c.committed-txns.result.now c.committed-txns.ensures in
-    omega arith
+    omega (arith, few_txns c.args.ix.now c.law.ensures c.committed-txns.result.now c.committed-txns.ensures)
 
 pub loop-e-preserved : goal.loop-e-preserved
 loop-e-preserved c =

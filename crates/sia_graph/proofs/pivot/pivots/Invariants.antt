@@ -1,5 +1,4 @@
-use Rattle.std.proofs.Common.{[]}
-use Rattle.std.specs.Prelude.{◌∷◌, All, map}
+use Rattle.std.proofs.Common.{[], ◌∷◌, All, map}
 use Rattle.sia_events.specs.DangerousStructures.{IsPivot}
 use Rattle.sia_parts.specs.Sights.{Adds}
 use Rattle.sia_parts.proofs.Shared.Adding.{FromFirst}

@@ -1,8 +1,8 @@
-use Rattle.std.proofs.Common.{◌≡◌, ◌+◌, ◌-◌, ℕ, Option, Some, unwrap_or, ap, sym, ◌∙◌, subst, arith}
+use Rattle.std.proofs.Common.{◌≡◌, ◌+◌, ◌-◌, ℕ, Option, Some, unwrap_or, ap, sym, ◌∙◌, subst, arith, nat_cmp}
 use Rattle.std.specs.BTreeMap.{get, Updates}
-use Rattle.std.specs.Ordering.{nat_cmp}
 use Rattle.sia_graph.specs.Replaying.{AreFirsts, AreNext}
-use Rattle.sia_graph.proofs.ReplayedTxns.MapSteps.{chains_more, there_is_one}
+use Rattle.sia_graph.proofs.ReplayedTxns.MapSteps.{chains_more}
+use Rattle.sia_events.proofs.Shared.LogReads.{no_event}
 use Rattle.sia_graph.proofs.serial_replay.chains.Goals as goal
 
 pub loop-before-preserved-in_ok-insert : goal.loop-before-preserved-in_ok-insert
@@ -18,4 +18,4 @@ loop-before-preserved-in_ok-insert c =
     is u
 
 pub loop-before-preserved : goal.loop-before-preserved
-loop-before-preserved c = grind (arith, there_is_one)
+loop-before-preserved c = grind (arith, no_event)

@@ -1,7 +1,5 @@
-use Rattle.std.proofs.Common.{◌+◌, ◌∙◌, Some, ap, sym, subst, arith}
+use Rattle.std.proofs.Common.{◌+◌, ◌∙◌, Some, ap, sym, subst, arith, ℕ, BTreeMap}
 use Rattle.std.proofs.lemmas.Option.{same_Some}
-use Rattle.std.specs.BTreeMap.{BTreeMap}
-use Rattle.std.proofs.Common.{ℕ}
 use Rattle.sia_graph.proofs.ReplayedTxns.MapSteps.{AreCommitsTo, commits_more, commits_same, all_commits}
 use Rattle.sia_graph.proofs.serial_replay.commit_places.Goals as goal
 use Rattle.sia_graph.proofs.serial_replay.commit_places.Goals.{in-Some+in-Commit+in_ok-insert, in-Some+in_default-event, in_default}

@@ -1,6 +1,5 @@
 -- First one transaction more is taken out of the map each time.
-use Rattle.std.proofs.Common.{◌≡◌, ◌+◌, ◌∙◌, [], ℕ, Bool, List, None, Some, arith, btree_map_len, drop, false, refl, sym, subst, true}
-use Rattle.std.specs.Prelude.{◌↔◌, IsTrue}
+use Rattle.std.proofs.Common.{◌≡◌, ◌+◌, ◌∙◌, [], ℕ, Bool, List, None, Some, arith, btree_map_len, drop, false, refl, sym, subst, true, ◌↔◌, IsTrue}
 use Rattle.std.proofs.lemmas.Bool.{false≢true}
 use Rattle.sia_events.specs.declared.event.Event.{Event}
 use Rattle.sia_events.specs.Replay.{IsOrder, serial}

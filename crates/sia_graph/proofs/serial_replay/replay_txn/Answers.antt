@@ -1,7 +1,6 @@
-use Rattle.std.proofs.Common.{◌≡◌, ◌<◌, ℕ, false, cond, List, Some, unwrap_or, get_or, ap, sym, ◌∙◌, subst, arith}
+use Rattle.std.proofs.Common.{◌≡◌, ℕ, false, cond, List, Some, unwrap_or, get_or, ap, sym, ◌∙◌, subst, arith, nat_cmp}
 use Rattle.std.proofs.lemmas.Option.{same_Some}
 use Rattle.std.specs.BTreeMap.{BTreeMap, Updates}
-use Rattle.std.specs.Ordering.{nat_cmp}
 use Rattle.std.proofs.lemmas.Bool.{cases_eq, eq-eqb, ne_eqb}
 use Rattle.sia_events.specs.declared.event.Event.{Event}
 use Rattle.sia_events.specs.declared.event.Event.TheVariants.{Write}
@@ -51,30 +50,27 @@ loop-at-preserved c =
     let start = version_in c.args.versions.now in
     let at = c.loop-at.at in
     let on = c.loop-at.invariant in
-    let w = next_event h t start c.loop-at.versions at on c.loop-at-test.true in
     let next = get_or c.args.next.now at 0 in
     elim c.match-event.branch [
       | in-Some+in_default-wrong_key+in-Write+in_ok-insert v ↦
           let e = v.in-Some.event.now in
           let there = sym v.in-Some.ensures in
           let n = is_next h t start c.loop-at.versions at on c.loop-at-test.true e there in
-          let some : 0 < at = let l = n.2 in omega arith in
           let u = v.in_ok-insert.ensures.updates in
           subst (λ (m : BTreeMap ℕ ℕ). IsOnChain h t start m next) (sym v.versions-is)
           (on_chain_more h t start c.loop-at.versions at on e n v.in_default-wrong_key.ensures v.insert.new.self
           (written h c.loop-at.versions v.insert.new.self v.in-Write.txn v.in-Write.key at u (there ∙ ap Some v.in-Write.is) on.written)
           (subst (λ (e : Event). (k : ℕ) → version_in v.insert.new.self k ≡ after (version_in c.loop-at.versions) e k) (sym v.in-Write.is) (kept c.loop-at.versions v.insert.new.self v.in-Write.txn v.in-Write.key u))
-          next (c.requires.next.1 at e some there))
+          next (c.requires.next.1 at e (let l = n.2 in omega arith) there))
       | in-Some+in_default-wrong_key+in_default-event v ↦
           let e = v.in-Some.event.now in
           let there = sym v.in-Some.ensures in
           let n = is_next h t start c.loop-at.versions at on c.loop-at-test.true e there in
-          let some : 0 < at = let l = n.2 in omega arith in
           subst (λ (m : BTreeMap ℕ ℕ). IsOnChain h t start m next) (sym v.versions-is)
           (on_chain_more h t start c.loop-at.versions at on e n v.in_default-wrong_key.ensures c.loop-at.versions on.written
           (λ k. sym (ap (λ b. cond b (actor e) (version_in c.loop-at.versions k)) (no_write e v.in_default-event.not-Write k)))
-          next (c.requires.next.1 at e some there))
-      | in_default v ↦ absurd (let k = v.in_default.ensures in let f = w.1.0 in let g = k ∙ f in cc)
+          next (c.requires.next.1 at e (let l = n.2 in omega arith) there))
+      | in_default v ↦ absurd (let k = v.in_default.ensures in let f = (next_event h t start c.loop-at.versions at on c.loop-at-test.true).1.0 in let g = k ∙ f in cc)
     ]
 
 pub returns-clause-right : goal.returns-clause-right

@@ -1,5 +1,4 @@
-use Rattle.std.proofs.Common.{arith, ◌≡◌, inl, inr, ltb, leb, ◌<◌, ◌≤◌, ℕ, List, Option, Some, refl, ap, sym, subst, ◌∙◌}
-use Rattle.std.specs.Prelude.{◌↔◌, All, IsTrue, MatchOption}
+use Rattle.std.proofs.Common.{arith, ◌≡◌, inl, inr, ltb, leb, ◌<◌, ◌≤◌, ℕ, List, Option, Some, refl, ap, sym, subst, ◌∙◌, ◌↔◌, All, IsTrue, MatchOption}
 use Rattle.std.proofs.lemmas.Bool.{cases_lt, le-leb, le-ltb, lt-leb, lt-ltb}
 use Rattle.std.specs.Bool.{then_some}
 use Rattle.sia_events.specs.declared.event.Event.{Event}
@@ -64,9 +63,8 @@ returns-in-Some-Some c =
     let key = c.in-Write.key in
     let txn = c.in-Write.txn in
     let is = c.version_of-found.ensures in
-    let some = c.if-found-eq0.false in
     let before =
-    follows_iff h c.len-events.ensures.well_formed key c.version_of-found.result txn _ _ some c.if-found-txn.false (c.requires.written key _ (grind arith))
+    follows_iff h c.len-events.ensures.well_formed key c.version_of-found.result txn _ _ c.if-found-eq0.false c.if-found-txn.false (c.requires.written key _ (grind arith))
     (c.requires.event.0, c.requires.event.1 ∙ ap Some c.in-Write.is)
     ((c.requires.commits c.version_of-found.result _).0 (sym c.in-Some-Some.ensures.value)) ((c.requires.commits txn _).0 (sym c.in-Some-Some.ensures'.value)) in
     subst (λ (e : Event). MatchOption c.then_some-in-Some-Some.result ((k : ℕ) → IsRight h found e k) (λ k. IsWrongAt h found e k (found k))) (sym c.in-Write.is)

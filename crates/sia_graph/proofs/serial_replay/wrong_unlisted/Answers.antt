@@ -1,12 +1,8 @@
-use Rattle.std.proofs.Common.{◌≡◌, ◌⊎◌, inl, inr, ℕ, ◌<◌, ◌≤◌, List, ◌∷◌, ◌∙◌, sym, subst, arith, rules}
+use Rattle.std.proofs.Common.{◌≡◌, ◌⊎◌, inl, inr, ℕ, ◌<◌, ◌≤◌, List, ◌∷◌, ◌∙◌, sym, subst, arith, rules, Contains, BTreeMap, nat_cmp, is_ok}
 use Rattle.std.proofs.lemmas.List.Sorted.{answers_always}
-use Rattle.std.specs.Prelude.{Contains}
-use Rattle.std.specs.BTreeMap.{BTreeMap}
 use Rattle.std.specs.BTreeMap.Range.{IsRangeOf}
 use Rattle.std.specs.declared.ops.Bound.TheVariants.{Included}
-use Rattle.std.specs.Ordering.{nat_cmp}
 use Rattle.sia_graph.specs.Replaying.{version_in}
-use Rattle.std.specs.Result.{is_ok}
 use Rattle.std.proofs.lemmas.Bool.{cases_lt, not_from_false, not_from_true}
 use Rattle.sia_events.proofs.Shared.Faults.{true_false}
 use Rattle.sia_graph.proofs.ReplayedTxns.RightAt.{is_listed_by, passed_key, range_first, range_none}

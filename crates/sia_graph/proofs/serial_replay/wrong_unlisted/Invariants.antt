@@ -1,5 +1,4 @@
-use Rattle.std.proofs.Common.{◌≡◌, ℕ, ◌+◌, ◌-◌, ◌<◌, ◌≤◌}
-use Rattle.std.specs.Prelude.{Contains}
+use Rattle.std.proofs.Common.{◌≡◌, ℕ, ◌+◌, ◌-◌, ◌<◌, ◌≤◌, Contains}
 use Rattle.sia_graph.specs.Replaying.{version_in}
 use Rattle.sia_graph.proofs.serial_replay.wrong_unlisted.Given as goal
 

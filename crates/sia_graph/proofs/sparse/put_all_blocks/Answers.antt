@@ -1,5 +1,4 @@
-use Rattle.std.proofs.Common.{◌≡◌, ◌≢◌, ◌↔◌, ◌⊎◌, ◌%◌, ◌-◌, ◌++◌, ◌∷◌, [], ℕ, List, get_or, inl, inr, sym, subst, arith}
-use Rattle.std.specs.Prelude.{Contains}
+use Rattle.std.proofs.Common.{◌≡◌, ◌≢◌, ◌↔◌, ◌⊎◌, ◌%◌, ◌-◌, ◌++◌, ◌∷◌, [], ℕ, List, get_or, inl, inr, sym, subst, arith, Contains}
 use Rattle.std.proofs.lemmas.Bool.{cases_lt}
 use Rattle.std.proofs.lemmas.List.Elements.{Contains-append_left, Contains-push, Contains-push_cases}
 use Rattle.sia_parts.specs.declared.accesses.RangeMiss.{RangeMiss}

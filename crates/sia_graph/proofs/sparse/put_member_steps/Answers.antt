@@ -1,5 +1,4 @@
-use Rattle.std.proofs.Common.{◌≡◌, ◌⊎◌, ◌<◌, ℕ, List, Option, Some, length, get_or, sym, subst, arith}
-use Rattle.std.specs.Prelude.{◌↔◌, Contains, MatchOption}
+use Rattle.std.proofs.Common.{◌≡◌, ◌⊎◌, ◌<◌, ℕ, List, Option, Some, length, get_or, sym, subst, arith, ◌↔◌, Contains, MatchOption}
 use Rattle.std.proofs.lemmas.List.Elements.{Contains-get_or}
 use Rattle.sia_events.specs.declared.event.Event.{Event}
 use Rattle.sia_events.specs.NarrowDependencies.{IsNextVersion}

@@ -1,7 +1,6 @@
-use Rattle.std.specs.Prelude.{MatchOption}
 use Rattle.sia_events.specs.DangerousStructures.{NoFirst}
 use Rattle.sia_graph.specs.EarlyVersions.{IsLimit}
-use Rattle.std.proofs.Common.{Option, Some, ◌≡◌, ℕ, List, sym, subst}
+use Rattle.std.proofs.Common.{Option, Some, ◌≡◌, ℕ, List, sym, subst, MatchOption}
 use Rattle.sia_events.specs.declared.event.Event.{Event}
 use Rattle.sia_events.specs.Dependencies.{RwEdge}
 use Rattle.sia_index.specs.Numbers.{IsCommittedAt}
@@ -87,8 +86,7 @@ bounds-txns-last c =
 pub returns : goal.returns
 returns c =
     let h = c.args.evidence.now.index.now in
-    let txns = c.committed-txns.result.now in
-    let number = λ (i t : ℕ) (at : IsCommittedAt h i t). (txn_number h txns c.committed-txns.ensures i t at).1 in
+    let number = λ (i t : ℕ) (at : IsCommittedAt h i t). (txn_number h c.committed-txns.result.now c.committed-txns.ensures i t at).1 in
     let keys = c.written_keys-keys.result.now in
     let pivot = chosen c.args.evidence.now.index.now c.in_ok-pivot.field-0 c.in-Some.pivot c.in-Some.limit c.in-Some.is c.in_ok-pivot.ensures in
     let last = c.in_ok-last.ensures pivot.0 pivot.1 in

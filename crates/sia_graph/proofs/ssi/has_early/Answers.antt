@@ -1,9 +1,7 @@
-use Rattle.std.proofs.Common.{◌≡◌, ◌-◌, ◌<◌, ◌≤◌, inl, inr, true, ℕ, List, Option, Some, None, get_or, take, refl, sym, subst, ◌∙◌, arith}
-use Rattle.std.specs.Option.{is_some}
-use Rattle.std.specs.Prelude.{◌↔◌, Contains, MatchOption}
+use Rattle.std.proofs.Common.{◌≡◌, ◌-◌, ◌<◌, ◌≤◌, inl, inr, true, ℕ, List, Option, Some, None, get_or, refl, sym, subst, ◌∙◌, arith, is_some, ◌↔◌, Contains, MatchOption}
 use Rattle.std.proofs.lemmas.Bool.{false≢true}
-use Rattle.std.proofs.lemmas.List.{take_all, take_more}
-use Rattle.std.proofs.lemmas.List.Elements.{Contains-get_or, Contains-push_cases}
+use Rattle.std.proofs.lemmas.List.{take_all}
+use Rattle.std.proofs.lemmas.List.Elements.{Contains-get_or}
 use Rattle.sia_events.specs.declared.event.Event.{Event}
 use Rattle.sia_index.specs.Info.{HasKeyAt, IsKeyAt}
 use Rattle.sia_index.specs.Positions.{HasVersionUpTo, IsAtPosition}
@@ -16,6 +14,7 @@ use Rattle.sia_graph.proofs.SsiTest.FoundFirsts.{missed_early, next_follows, non
 use Rattle.sia_parts.proofs.Shared.OneNumber.{one_committed as one_txn_at}
 use Rattle.sia_graph.proofs.ssi.has_early.Goals.{After-at-position-items, After-at-miss-items, In-Some, in-Some+else-commit_at-place, in_default}
 use Rattle.sia_graph.proofs.ssi.has_early.Goals as goal
+use Rattle.sia_graph.proofs.Shared.Positions.{first_cases}
 
 -- what is listed was seen, and the other way round
 seen : (c : After-at-position-items) → (p : ℕ) → Contains c.at-position-items.result.now p → SawPosition c.args.evidence.now.accesses.now c.args.txn p
@@ -69,7 +68,7 @@ loop-position-preserved c p v has there f =
     let saw = c.at-position-items.result.now in
     let n = c.loop-position.position-index in
     let q = get_or saw n 0 in
-    elim (Contains-push_cases (take n saw) q p (subst (λ (xs : List ℕ). Contains xs p) (take_more saw n 0 c.loop-position-test.true) has)) [
+    elim ((first_cases saw n 0 p c.loop-position-test.true).0 has) [
       | inl before ↦ c.loop-position.invariant p v before there f
       | inr same ↦
           let here = subst (λ r. IsAtPosition h r v) (sym same) there in
@@ -151,7 +150,7 @@ loop-miss-preserved c = (
       let misses = c.at-miss-items.result.now in
       let n = c.loop-miss.miss-index in
       let x = get_or misses n none in
-      elim (Contains-push_cases (take n misses) x m (subst (λ (xs : List RangeMiss). Contains xs m) (take_more misses n none c.loop-miss-test.true) has)) [
+      elim ((first_cases misses n none m c.loop-miss-test.true).0 has) [
         | inl before ↦ c.loop-miss.invariant.1 m j k before low high key up
         | inr same ↦
             let from : x.from ≤ j = subst (λ (y : RangeMiss). y.from ≤ j) (sym same) low in

@@ -1,6 +1,5 @@
-use Rattle.std.proofs.Common.{◌≡◌, ◌⊎◌, ◌*◌, ◌<◌, ◌≤◌, inl, inr, ℕ, List, [], length, get_or, refl, ap, sym, subst, ◌∙◌, arith, drop}
+use Rattle.std.proofs.Common.{◌≡◌, ◌⊎◌, ◌*◌, ◌<◌, ◌≤◌, inl, inr, ℕ, List, [], length, get_or, refl, ap, sym, subst, ◌∙◌, arith, drop, ◌↔◌, Contains}
 use Rattle.std.proofs.lemmas.List.{take-append-le, take_all}
-use Rattle.std.specs.Prelude.{◌↔◌, Contains}
 use Rattle.std.proofs.lemmas.List.Elements.{Contains-get_or}
 use Rattle.sia_index.proofs.Shared.KeyChains.{key_number}
 use Rattle.sia_index.specs.Numbers.{IsCommittedAt}
@@ -11,12 +10,12 @@ use Rattle.sia_graph.specs.Passed.{IsHeldBy, IsOwnPassed}
 use Rattle.sia_graph.proofs.SsiTest.Marks.{passed_marked, passed_unmarked, seen_marked, seen_unmarked}
 use Rattle.sia_graph.proofs.SsiTest.LateEdges.{lates, last_all, last_more, last_none}
 use Rattle.sia_graph.proofs.Shared.MemberSteps.{size_few}
-use Rattle.sia_graph.proofs.Shared.EarlierSources.{below_positions}
 use Rattle.sia_parts.proofs.EdgeRows.Room.{one_count}
 use Rattle.sia_graph.proofs.SsiTest.Raised.{below_max}
 use Rattle.sia_parts.proofs.EdgeRows.Readings.{few_txns}
 use Rattle.sia_graph.proofs.ssi.late_of.Goals.{After-commit_at, then-commit_at-eq0, else-commit_at-eq0}
 use Rattle.sia_graph.proofs.ssi.late_of.Goals as goal
+use Rattle.sia_parts.proofs.EdgeRows.PositionOrder.{has_position}
 
 pub loop-txn-init : goal.loop-txn-init
 loop-txn-init c =
@@ -110,14 +109,14 @@ pub loop-position-init : goal.loop-position-init
 loop-position-init c = (last_none c.args.evidence.now.index.now c.size_for-size.result c.loop-txn.seen c.loop-txn.most, omega arith)
 
 pub commit_at-requires : goal.commit_at-requires
-commit_at-requires c = below_positions c.args.evidence.now.index.now c.position_count-position-end.result c.loop-position.position c.position_count-position-end.ensures c.loop-position-test.true
+commit_at-requires c = has_position c.args.evidence.now.index.now c.position_count-position-end.result c.loop-position.position c.position_count-position-end.ensures c.loop-position-test.true
 
 pub key_at-requires : goal.key_at-requires
-key_at-requires c = below_positions c.args.evidence.now.index.now c.position_count-position-end.result c.loop-position.position c.position_count-position-end.ensures c.loop-position-test.true
+key_at-requires c = has_position c.args.evidence.now.index.now c.position_count-position-end.result c.loop-position.position c.position_count-position-end.ensures c.loop-position-test.true
 
 pub top_of-last-requires-clause-within : goal.top_of-last-requires-clause-within
 top_of-last-requires-clause-within c =
-    let at = below_positions c.args.evidence.now.index.now c.position_count-position-end.result c.loop-position.position c.position_count-position-end.ensures c.loop-position-test.true in
+    let at = has_position c.args.evidence.now.index.now c.position_count-position-end.result c.loop-position.position c.position_count-position-end.ensures c.loop-position-test.true in
     elim c.size_for-size.ensures [
       | inl all ↦ let l = (key_number c.args.evidence.now.index.now all.0 all.1 c.key_at.result at.0.key (c.key_at.ensures at.0 at.1)).0 in let e = all.2 in inr (omega arith)
       | inr none ↦ inl none.0
@@ -138,7 +137,7 @@ pub loop-position-preserved : goal.loop-position-preserved
 loop-position-preserved c =
     let h = c.args.evidence.now.index.now in
     let q = c.loop-position.position in
-    let at = below_positions h c.position_count-position-end.result q c.position_count-position-end.ensures c.loop-position-test.true in
+    let at = has_position h c.position_count-position-end.result q c.position_count-position-end.ensures c.loop-position-test.true in
     let last = c.if-commit_at-eq0.last in
     let is = c.commit_at.ensures at.0 at.1 in (
       last_more h c.size_for-size.result c.loop-txn.seen c.loop-txn.most q c.loop-position.seen c.loop-position.last last c.max-last.result at.0 at.1 (inside (goal.at.loop-position-preserved c).After-commit_at) c.loop-position.invariant.0

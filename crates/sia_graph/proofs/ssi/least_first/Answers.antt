@@ -25,9 +25,7 @@ loop-txn-preserved c =
 pub overflow_cast-left : goal.overflow_cast-left
 overflow_cast-left c =
     let txns = c.committed-txns.result.now in
-    let few = few_txns c.args.evidence.now.index.now c.requires.evidence.well_formed txns c.committed-txns.ensures in
-    let long = (c.lifetimes-lifetimes.ensures txns c.committed-txns.ensures).long in
-    omega arith
+    omega (arith, few_txns c.args.evidence.now.index.now c.requires.evidence.well_formed txns c.committed-txns.ensures, (c.lifetimes-lifetimes.ensures txns c.committed-txns.ensures).long)
 
 -- each has its value
 values_are : (c : After-loop-txn) → AreValuesFrom c.args.place c.lifetimes-lifetimes.result.now c.loop-txn.values.items (length c.lifetimes-lifetimes.result.now)
@@ -60,8 +58,7 @@ module _ (c : After-greatest_entering) (t last : ℕ) (at : IsCommittedAt c.args
   fits =
       let l = first_fits h txns c.committed-txns.ensures c.requires.evidence.well_formed c.requires.kept c.args.pivot t at last c.args.place ends first c.lifetimes-lifetimes.result.now lived
       c.loop-txn.values.items from c.greatest_entering.result entering in
-      let long = lived.long in
-      omega arith
+      omega (arith, lived.long)
 
   told : (n : ℕ) → n ≡ length txns - c.greatest_entering.result → (u : ℕ) × IsCommittedAt h n u × IsLeast (MayBeFirst h t last) u
   told n is =

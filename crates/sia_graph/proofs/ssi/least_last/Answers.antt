@@ -1,5 +1,4 @@
-use Rattle.std.proofs.Common.{◌≡◌, ◌≢◌, inl, inr, ℕ, List, ◌<◌, ◌≤◌, length, get_or, replicate, set, refl, sym, subst, ◌∙◌, arith}
-use Rattle.std.specs.Prelude.{◌↔◌}
+use Rattle.std.proofs.Common.{◌≡◌, ◌≢◌, inl, inr, ℕ, List, ◌<◌, ◌≤◌, length, get_or, replicate, set, refl, sym, subst, ◌∙◌, arith, ◌↔◌}
 use Rattle.std.proofs.lemmas.Bool.{cases_lt}
 use Rattle.std.proofs.lemmas.List.{get_or-set_other, get_or-set_same, length-replicate}
 use Rattle.sia_events.specs.declared.event.Event.{Event}
@@ -11,7 +10,7 @@ use Rattle.sia_index.specs.Numbers.{IsCommittedAt}
 use Rattle.sia_graph.specs.Dangerous.{IsLeast}
 use Rattle.sia_graph.specs.EarlyVersions.{IsLimit}
 use Rattle.sia_graph.specs.Late.{AreLate, Enters}
-use Rattle.sia_graph.proofs.SsiTest.FoundFirsts.{first_committed, last_least, reached_first, commit_lived}
+use Rattle.sia_graph.proofs.SsiTest.FoundFirsts.{first_committed, least_named, reached_first, commit_lived}
 use Rattle.sia_graph.proofs.SsiTest.Marks.{none_there}
 use Rattle.sia_graph.proofs.Shared.Numbered.{number_of, txn_number}
 use Rattle.sia_parts.proofs.EdgeRows.Readings.{few_txns}
@@ -56,7 +55,7 @@ module _ (c : In_ok-late) where
     first_of = reached_first h txns c.committed-count.ensures c.requires.evidence.well_formed c.requires.kept c.args.pivot t at values marked others c.args.limit limited
 
     least : (n u : ℕ) → IsCommittedAt h n u → IsFirst h t u → ((j v : ℕ) → j < n → IsCommittedAt h j v → ¬ IsFirst h t v) → IsLeast (IsFirst h t) u
-    least = last_least h txns c.committed-count.ensures c.requires.evidence.well_formed c.requires.kept c.args.pivot t at values marked others c.args.limit limited
+    least = least_named h txns c.committed-count.ensures (IsFirst h t) (first_committed h txns c.committed-count.ensures c.requires.evidence.well_formed c.requires.kept t)
 
 pub overflow_cast-txn-end : goal.overflow_cast-txn-end
 overflow_cast-txn-end c = let few = few_txns c.args.evidence.now.index.now c.requires.evidence.well_formed c.committed-count.result.now c.committed-count.ensures in omega arith

@@ -36,8 +36,7 @@ module _ (c : In_ok-late) (commits_is : c.in_ok-commits.commits.items ≡ map co
   are : AreCommits h commits
   are =
       let txns = c.committed-txns.result.now in
-      let lifetimes = c.lifetimes-lifetimes.result.now in
-      commits_lived h txns c.committed-txns.ensures lifetimes (c.lifetimes-lifetimes.ensures txns c.committed-txns.ensures) commits commits_is
+      commits_lived h txns c.committed-txns.ensures c.lifetimes-lifetimes.result.now (c.lifetimes-lifetimes.ensures txns c.committed-txns.ensures) commits commits_is
 
   lates : (late : List ℕ) → late ≡ c.in_ok-late.late.items → AreLate h commits late
   lates late is = subst (AreLate h commits) (sym is) (subst (λ (l : List ℕ). AreLate h l c.in_ok-late.late.items) c.deref.ensures.value c.in_ok-late.ensures)
@@ -59,8 +58,7 @@ pub overflow_sub-last : goal.overflow_sub-last
 overflow_sub-last c =
     let start = goal.at.overflow_sub-last c in
     let t = get_or c.committed-txns.result.now c.loop-txn.txn 0 in
-    let number : IsCommittedAt c.args.evidence.now.index.now c.loop-txn.txn t = (c.committed-txns.result.now, c.committed-txns.ensures, omega arith, refl) in
-    let p = positive start.In_ok-late (commits_are start.In_ok-commits) c.loop-txn.txn t number in
+    let p = positive start.In_ok-late (commits_are start.In_ok-commits) c.loop-txn.txn t (c.committed-txns.result.now, c.committed-txns.ensures, omega arith, refl) in
     omega arith
 
 pub greatest_entering-requires-clause-txn : goal.greatest_entering-requires-clause-txn
@@ -75,8 +73,7 @@ has_early-requires-clause-txn c =
     let number : IsCommittedAt c.args.evidence.now.index.now n t = (c.committed-txns.result.now, c.committed-txns.ensures, omega arith, refl) in
     let before = start.In_ok-late in
     let is = commits_are start.In_ok-commits in
-    let p = positive before is n t number in
-    (t, (get_or c.lifetimes-lifetimes.result.now n no_lifetime).commit, number, ends before is n t number, omega arith)
+    (t, (get_or c.lifetimes-lifetimes.result.now n no_lifetime).commit, number, ends before is n t number, omega (arith, positive before is n t number))
 
 pub returns-then-has_early : goal.returns-then-has_early
 returns-then-has_early c =
@@ -112,6 +109,5 @@ loop-txn-preserved c = (
 
 pub returns : goal.returns
 returns c =
-    let h = c.args.evidence.now.index.now in
-    none_first h c.committed-txns.result.now c.committed-txns.ensures c.requires.evidence.well_formed c.requires.kept
+    none_first c.args.evidence.now.index.now c.committed-txns.result.now c.committed-txns.ensures c.requires.evidence.well_formed c.requires.kept
     (λ j u below at. c.loop-txn.invariant.0 j u (let l = c.loop-txn-test.false in omega arith) at)

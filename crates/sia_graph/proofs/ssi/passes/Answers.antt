@@ -1,5 +1,4 @@
-use Rattle.std.proofs.Common.{◌≡◌, ◌∙◌, [], Bool, List, true, length, inl, inr, sym, arith}
-use Rattle.std.specs.Prelude.{◌↔◌, ◌==◌}
+use Rattle.std.proofs.Common.{◌≡◌, ◌∙◌, [], Bool, List, true, length, inl, inr, sym, arith, ◌↔◌, ◌==◌}
 use Rattle.std.proofs.lemmas.Bool.{false≢true, not-false, not_from_true}
 use Rattle.std.proofs.lemmas.Grind.{common_steps}
 use Rattle.sia_graph.proofs.SsiTest.FoundFirsts.{there_or_not}

@@ -1,5 +1,4 @@
-use Rattle.std.proofs.Common.{◌≡◌, List, ℕ, [], ◌+◌, ◌<◌, arith, get_or, length, subst, sym}
-use Rattle.std.specs.Prelude.{Contains}
+use Rattle.std.proofs.Common.{◌≡◌, List, ℕ, [], ◌+◌, ◌<◌, arith, get_or, length, subst, sym, Contains}
 use Rattle.std.proofs.lemmas.List.Elements.{Contains-get_or}
 use Rattle.sia_events.specs.declared.event.Event.{Event}
 use Rattle.sia_index.specs.Positions.{ArePositions, HasPosition}
@@ -71,10 +70,9 @@ loop-key-preserved c =
     let n = c.loop-key.key-index in
     let w = c.first_position.ensures in
     let stand = c.stand_of-in-loop-key in
-    let inside = first_inside (goal.at.loop-key-preserved c).After-first_position stand.result stand.ensures in
     subst (λ (l : List ℕ). IsRaised h c.args.txn (IsOwnFirst h c.args.txn saw own (n + 1)) c.args.table.now l c.args.to) (sym c.raise-in-loop-key.ensures)
     (own_more h c.args.txn saw own n 0 c.args.table.now c.loop-key.table c.args.to c.first_position.result stand.result w.0 c.loop-key-test.true
-    c.loop-key.invariant inside w.1 w.2 w.3 stand.ensures)
+    c.loop-key.invariant (first_inside (goal.at.loop-key-preserved c).After-first_position stand.result stand.ensures) w.1 w.2 w.3 stand.ensures)
 
 pub returns : goal.returns
 returns c =

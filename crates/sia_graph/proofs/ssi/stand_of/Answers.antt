@@ -14,9 +14,8 @@ pub returns-in-Some : goal.returns-in-Some
 returns-in-Some c =
     let at = c.requires in
     let w = c.in-Some.ensures at.0 at.1 in
-    let is = is_told c.maker_at.result c.args.txn c.eq.result c.eq.ensures in
     let told = maker_told c.args.index.now c.in-Some.next w.0 w.1 c.maker_at.result (c.maker_at.ensures w.0 w.1) c.args.txn in
-    stands_own c.args.index.now c.args.txn c.args.position at.0 at.1 c.in-Some.next w.0 w.1 w.2 w.3 w.4 (told.0 (is.0 c.if-eq.true))
+    stands_own c.args.index.now c.args.txn c.args.position at.0 at.1 c.in-Some.next w.0 w.1 w.2 w.3 w.4 (told.0 ((is_told c.maker_at.result c.args.txn c.eq.result c.eq.ensures).0 c.if-eq.true))
 
 pub returns-in_default : goal.returns-in_default
 returns-in_default c =

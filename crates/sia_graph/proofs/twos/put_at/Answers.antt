@@ -1,5 +1,4 @@
-use Rattle.std.proofs.Common.{◌<◌, ◌++◌, get_or, length, map, set, take, subst, sym, arith}
-use Rattle.std.proofs.lemmas.List.{append-nil, take_all}
+use Rattle.std.proofs.Common.{◌<◌, ◌++◌, get_or, length, map, set, take, subst, sym, arith, append-nil, take_all}
 use Rattle.sia_graph.specs.Twos.{AreTwosOf}
 use Rattle.sia_graph.proofs.TwoLeast.EnteredTwos.{At, entries_few, entries_more, entry_put}
 use Rattle.sia_graph.proofs.twos.put_at.Goals as goal

@@ -1,5 +1,4 @@
-use Rattle.std.proofs.Common.{◌≡◌, ◌≢◌, ◌<◌, ◌+◌, ℕ, suc, List, [], drop, inl, length, get_or, refl, ap, sym, subst, ◌∙◌, arith}
-use Rattle.std.specs.Prelude.{Contains}
+use Rattle.std.proofs.Common.{◌≡◌, ◌≢◌, ◌<◌, ◌+◌, ℕ, suc, List, [], drop, inl, length, get_or, refl, ap, sym, subst, ◌∙◌, arith, Contains}
 use Rattle.std.specs.List.{count_by, range_with_len}
 use Rattle.std.proofs.lemmas.List.{drop_all, get_or_default, length-set}
 use Rattle.std.specs.Vec.{with_item}
@@ -39,14 +38,9 @@ raised c m is = let read = is ∙ get_or_default c.waiting.self.counts.items c.i
 
 -- the first that waits is held back once more, and the next one stands in its place
 is_woken : (c : After-index-in-waiting) (m n : ℕ) → m ≡ get_or c.waiting.self.counts.items c.index-in-waiting.result.now m → n ≡ get_or c.waiting.self.next_waiting.items c.index-in-waiting.result.now n
-    → IsTaking c.args.graph.now c.args.done.now (record {
+    → IsTaking c.args.graph.now c.args.done.now (record (c.waiting.self) {
       counts = with_item c.waiting.self.counts c.index-in-waiting.result.now (m + 1);
-      passed = c.waiting.self.passed;
       first_waiting = with_item c.waiting.self.first_waiting c.args.node n;
-      next_waiting = c.waiting.self.next_waiting;
-      run = c.waiting.self.run;
-      others = c.waiting.self.others;
-      end = c.waiting.self.end;
     }) (one_more c.index-in-waiting.result.now (to_take c)) c.args.node
 is_woken c m n counted next =
     let g = c.args.graph.now in
@@ -57,30 +51,25 @@ is_woken c m n counted next =
     let inside = (waits c).0 in
     let link = next ∙ get_or_default k.next_waiting.items first n 0 (omega arith) in
     let more = one_more first (to_take c) in
-    let same = length-set k.counts.items first (m + 1) in
     record {
       under_way = woken g done k (to_take c) c.args.node (below c) is first (first_is c) (some_waits c) (m + 1) (raised c m counted) n link more (one_more_is first (to_take c));
       ready = ready_woken g done k (to_take c) c.args.node (below c) is first (first_is c) (some_waits c) (m + 1) (raised c m counted) n link more (one_more_is first (to_take c));
       before = is.before;
-      within = let w = is.within in omega arith;
+      within = let w = is.within in omega (arith, length-set k.counts.items first (m + 1));
     }
 
 pub index-requires-in-waiting-2 : goal.index-requires-in-waiting-2
 index-requires-in-waiting-2 c =
-    let inside = (waits (goal.at.index-requires-in-waiting-2 c).After-index-in-waiting).0 in
-    omega arith
+    omega (arith, (waits (goal.at.index-requires-in-waiting-2 c).After-index-in-waiting).0)
 
 pub index_mut-requires-in-waiting : goal.index_mut-requires-in-waiting
 index_mut-requires-in-waiting c =
-    let inside = (waits (goal.at.index_mut-requires-in-waiting c).After-index-in-waiting).0 in
-    omega arith
+    omega (arith, (waits (goal.at.index_mut-requires-in-waiting c).After-index-in-waiting).0)
 
 pub overflow_add-index_mut : goal.overflow_add-index_mut
 overflow_add-index_mut c =
     let before = (goal.at.overflow_add-index_mut c).After-index-in-waiting in
-    let one = (waits before).1 in
-    let read = raised before c.index_mut-in-waiting.result.now c.index_mut-in-waiting.ensures.value in
-    omega arith
+    omega (arith, (waits before).1, raised before c.index_mut-in-waiting.result.now c.index_mut-in-waiting.ensures.value)
 
 pub release-requires-clause-node : goal.release-requires-clause-node
 release-requires-clause-node c =

@@ -1,11 +1,9 @@
-use Rattle.std.proofs.Common.{◌≡◌, ◌+◌, ◌-◌, ◌<◌, ◌≤◌, ℕ, [], Bool, List, Option, Result, Some, length, get_or, set, inl, inr, ◌⊎◌, ap, refl, sym, subst, ◌∙◌, arith}
-use Rattle.std.specs.BinaryHeap.{heap_items}
+use Rattle.std.proofs.Common.{◌≡◌, ◌+◌, ◌-◌, ◌<◌, ◌≤◌, ℕ, [], Bool, List, Option, Result, Some, length, get_or, set, inl, inr, ◌⊎◌, ap, refl, sym, subst, ◌∙◌, arith, heap_items, ◌↔◌}
 use Rattle.std.specs.List.Sorted.{IsStrictlyIncreasing}
 use Rattle.std.specs.Result.{OkIff, result_ok}
 use Rattle.std.proofs.lemmas.Bool.{cases_eq, cases_lt}
 use Rattle.std.proofs.lemmas.List.{get_or-set_same, get_or-set_other, get_or_default, length-set}
 use Rattle.std.proofs.lemmas.Option.{same_Some, slice_get-get_or}
-use Rattle.std.specs.Prelude.{◌↔◌}
 use Rattle.sia_graph.specs.UnderWay.{HasReady, IsBehind, IsDone, IsOneFewer, IsReadyAt, IsTaking, IsUnderWay, held}
 use Rattle.sia_graph.proofs.Orders.Released.{many, others_waited, ready_free, ready_held, sources_within, under_way_free, under_way_held, under_way_waiting}
 use Rattle.sia_graph.proofs.Orders.ReadySets.{ascends_more, one, others_more, put_before, put_noted, read_at, run_more}
@@ -61,8 +59,7 @@ returns-then-place-sources-clause-is c pending less waking is fewer =
     let old = c.index_mut.ensures.value ∙ get_or_default k.counts.items node c.index_mut.result.now 0 below in
     let long = length-set k.counts.items node v in
     let same = get_or-set_same k.counts.items node v c.index.result.now below in
-    let w = is.under_way in
-    let passed = w.passed_long in
+    let passed = is.under_way.passed_long in
     let p = c.in_ok-self.field-0 in
     let stored = same_place c.try_from.result c.ok.result p c.loop-place.place c.try_from.ensures c.ok.ensures.value c.in_ok-self.ensures.ok_part in
     let f =

@@ -1,15 +1,12 @@
-use Rattle.std.specs.Prelude.{MatchOption}
 use Rattle.std.specs.BinaryHeap.{IsHeap, heap_items}
 use Rattle.std.specs.List.Sorted.{IsStrictlyIncreasing}
-use Rattle.std.specs.Ordering.{nat_cmp}
 use Rattle.std.proofs.lemmas.List.Sorted.{length_permutation}
 use Rattle.std.specs.List.{AllWithin, HoldsAt}
-use Rattle.std.specs.Option.{option_to_list}
 use Rattle.std.specs.declared.cmp.Reverse.{Reverse}
 use Rattle.std.proofs.lemmas.Bool.{cases_lt}
 use Rattle.std.proofs.lemmas.Iterator.{IsFirst-from_position, YieldsList-from_slice}
 use Rattle.std.proofs.lemmas.List.{get_or-drop, get_or_default, get_or_past, length-drop, take_all}
-use Rattle.std.proofs.Common.{◌≡◌, ◌≢◌, ◌+◌, ◌-◌, ◌<◌, ◌≤◌, ◌++◌, inl, inr, ℕ, List, ◌∷◌, Option, None, Some, drop, take, get_or, length, ap, refl, sym, subst, ◌∙◌, arith, rules, tests}
+use Rattle.std.proofs.Common.{◌≡◌, ◌≢◌, ◌+◌, ◌-◌, ◌<◌, ◌≤◌, ◌++◌, inl, inr, ℕ, List, ◌∷◌, Option, None, Some, drop, take, get_or, length, ap, refl, sym, subst, ◌∙◌, arith, rules, tests, MatchOption, nat_cmp, option_to_list}
 use Rattle.sia_graph.specs.UnderWay.{IsReadyIn, IsTaken, held, times}
 use Rattle.sia_graph.specs.declared.order.Taking.{Taking}
 use Rattle.sia_graph.proofs.Orders.ReadySets.{among, least_of_others, others_from, others_less, none_held, empty_run, read_at, rest_ascends, run_from, run_less, taken_from, with_left}

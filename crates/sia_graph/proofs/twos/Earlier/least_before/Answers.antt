@@ -10,9 +10,7 @@ use Rattle.sia_graph.proofs.twos.Earlier.least_before.Goals as goal
 
 pub index-requires : goal.index-requires
 index-requires c =
-    let is = c.requires.is in
-    let l = positions_below c.args.index.now _ c.args.position is.3.makers_long c.requires.position in
-    omega arith
+    omega (arith, positions_below c.args.index.now _ c.args.position c.requires.is.3.makers_long c.requires.position)
 
 pub loop-block-init : goal.loop-block-init
 loop-block-init c =
@@ -50,10 +48,8 @@ loop-block-preserved c =
 
 pub index-requires-in-Some : goal.index-requires-in-Some
 index-requires-in-Some c =
-    let is = c.requires.is.3 in
-    let l = positions_below c.args.index.now _ c.args.position is.makers_long c.requires.position in
     let b = before_less c.args.index.now c.args.position c.requires.position c.position_before.result c.position_before.ensures c.in-Some.before c.in-Some.is in
-    omega arith
+    omega (arith, positions_below c.args.index.now _ c.args.position c.requires.is.3.makers_long c.requires.position)
 
 pub returns : goal.returns
 returns c a left are =
@@ -62,10 +58,9 @@ returns c a left are =
     let q = c.args.position in
     let v = c.requires.position in
     let me = c.args.me in
-    let long = positions_below h _ q are.makers_long v in
     let made =
     other_of (IsUpTo h (IsLeftMaker h left) q) c.index.result.now me c.other-made.result c.other-made.ensures.own c.other-made.ensures.another
-    (subst (IsTwo (IsUpTo h (IsLeftMaker h left) q)) (sym c.index.ensures) (are.makers q c.index.result.now long)) in
+    (subst (IsTwo (IsUpTo h (IsLeftMaker h left) q)) (sym c.index.ensures) (are.makers q c.index.result.now (positions_below h _ q are.makers_long v))) in
     let key = c.key_at-key.result in
     let size = c.args.self.now.size in
     let none : c.loop-block.block ≡ 0 = (let f = c.loop-block-test.false in omega arith) in
@@ -80,18 +75,15 @@ returns c a left are =
     let seen : IsLeastNumber (λ r. SawBelow h a left q r × (r ≢ me)) c.match-position_before.seen = elim c.match-position_before.branch [
       | in-Some w ↦
           let b = before_less h q v c.position_before.result c.position_before.ensures w.in-Some.before w.in-Some.is in
-          let l = positions_below h _ q are.makers_long v in
           let two = w.index-in-Some.result.now in
           subst (IsLeastNumber (λ r. SawBelow h a left q r × (r ≢ me))) (sym w.seen-is)
           (saw_below h wf a left q w.in-Some.before v.0 v.1 (w.in-Some.ensures v.0 v.1) two me w.other-seen.result w.other-seen.ensures.own w.other-seen.ensures.another
-          (subst (IsTwo (IsUpTo h (IsLeftReader a left) w.in-Some.before)) (sym w.index-in-Some.ensures) (are.readers w.in-Some.before two (omega arith))))
+          (subst (IsTwo (IsUpTo h (IsLeftReader a left) w.in-Some.before)) (sym w.index-in-Some.ensures) (are.readers w.in-Some.before two (omega (arith, positions_below h _ q are.makers_long v)))))
       | in-None w ↦ subst (IsLeastNumber (λ r. SawBelow h a left q r × (r ≢ me))) (sym w.seen-is) (none_saw h wf a left q v.0 v.1 (w.in-None.ensures v.0 v.1) me)
     ] in
     let bound : c.match-position_before.seen ≤ 4294967295 = elim c.match-position_before.branch [
       | in-Some w ↦ let e = w.seen-is in omega arith
       | in-None w ↦ let e = w.seen-is in omega arith
     ] in
-    let first = c.min.ensures in
-    let second = c.min-2.ensures in
-    subst (IsLeastNumber (λ r. IsBeforeVersion h a left q r × (r ≢ me))) (sym (second ∙ ap (λ n. min n c.match-position_before.seen) first))
+    subst (IsLeastNumber (λ r. IsBeforeVersion h a left q r × (r ≢ me))) (sym (c.min-2.ensures ∙ ap (λ n. min n c.match-position_before.seen) c.min.ensures))
     (before_version h wf a left q v.0 v.1 c.key_at-key.result (c.key_at-key.ensures v.0 v.1) me c.other-made.result c.loop-block.passed c.match-position_before.seen (omega arith) (omega arith) bound made passed seen)

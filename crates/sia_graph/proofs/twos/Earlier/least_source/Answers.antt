@@ -1,6 +1,4 @@
-use Rattle.std.proofs.Common.{◌+◌, inl, inr, ℕ, List, get_or, min, take, sym, subst, arith}
-use Rattle.std.specs.Prelude.{◌↔◌, Contains}
-use Rattle.std.proofs.lemmas.List.{take_all}
+use Rattle.std.proofs.Common.{◌+◌, inl, inr, ℕ, List, get_or, min, take, sym, subst, arith, ◌↔◌, Contains, take_all}
 use Rattle.std.proofs.lemmas.List.Elements.{Contains-get_or}
 use Rattle.sia_parts.specs.Accesses.{SawPosition}
 use Rattle.sia_parts.specs.Sights.{FromSome}
@@ -42,8 +40,7 @@ index-requires c =
     let row = c.at-position-items.result.now in
     let q = get_or row c.loop-position-2.position-index 0 in
     let there = subst (λ (xs : List ℕ). Contains xs q) c.at-position-items.ensures (Contains-get_or row c.loop-position-2.position-index 0 c.loop-position-2-test.true) in
-    let saw = (saw_is h a c.requires.is.accesses c.args.me u.0 u.1 q).0 there in
-    let l = positions_below h _ q c.requires.earlier.1.makers_long (saw_position h a c.requires.is.accesses c.args.me u.0 u.1 q saw) in
+    let l = positions_below h _ q c.requires.earlier.1.makers_long (saw_position h a c.requires.is.accesses c.args.me u.0 u.1 q ((saw_is h a c.requires.is.accesses c.args.me u.0 u.1 q).0 there)) in
     omega arith
 
 pub loop-position-2-preserved : goal.loop-position-2-preserved
