@@ -2,3 +2,4 @@ pub mod Ins
 pub mod Lookers
 pub mod Passers
 pub mod Passings
+pub mod Stops

@@ -1,16 +1,18 @@
 -- What the neighbours of pivots are found by: what each transaction saw and passed over, and who saw a version and passed over a key.
-use Rattle.std.specs.Prelude.{◌≡◌, ◌≢◌, ◌↔◌, ◌+◌, ◌-◌, ◌*◌, ◌<◌, ◌≤◌, ℕ, Bool, true, false, List, [], Contains, length, slice_index_or, vec_capacity}
+use Rattle.std.specs.Prelude.{◌≡◌, ◌≢◌, ◌↔◌, ◌+◌, ◌-◌, ◌*◌, ◌<◌, ◌≤◌, ℕ, Bool, true, false, List, [], Contains, length, slice_index, slice_index_or, vec_capacity}
 use Rattle.std.specs.Global.{Vec}
 use Rattle.std.specs.List.Sorted.{IsNonDecreasingBy}
 use Rattle.sia_events.specs.declared.event.Event.{Event}
-use Rattle.sia_events.specs.Transactions.{CommitsAt, Overlap}
+use Rattle.sia_events.specs.Transactions.{CommitsAt, Overlap, StartsAt}
+use Rattle.sia_index.specs.declared.info.KeyVersion.{KeyVersion}
 use Rattle.sia_index.specs.Lists.{joined}
 use Rattle.sia_index.specs.Minima.{AreMinima}
 use Rattle.sia_index.specs.Numbers.{IsCommittedAt}
+use Rattle.sia_index.specs.Positions.{ArePositions, IsAtPosition}
 use Rattle.sia_parts.specs.declared.accesses.Accesses.{Accesses}
 use Rattle.sia_parts.specs.declared.accesses.RangeMiss.{RangeMiss}
 use Rattle.sia_parts.specs.Accesses.{HasMiss}
-use Rattle.sia_parts.specs.EdgeRows.{AreSeen}
+use Rattle.sia_parts.specs.EdgeRows.{AreSeen, HasReading}
 use Rattle.sia_parts.specs.Sights.{Adds, FromSome}
 use Rattle.sia_graph.specs.declared.neighbours.Neighbour.{Neighbour}
 use Rattle.sia_graph.specs.declared.neighbours.Neighbours.{Neighbours}
@@ -31,6 +33,16 @@ saw_of n i = slice_index_or n.evidence.accesses.now.saw i []
 abbrev pub missed_of : Neighbours → ℕ → List RangeMiss
 missed_of n i = slice_index_or n.evidence.accesses.now.missed i []
 
+-- the number at a position is at most the start of any who made the version there or a later one of its key
+pub record AreFirstStarts (h : List Event) (starts : List ℕ) : Type 0 where
+  pub long : ArePositions h (length starts)
+  pub first : (p q s : ℕ) (v w : KeyVersion) → IsAtPosition h p v → IsAtPosition h q w → w.key ≡ v.key → p ≤ q → StartsAt h w.txn s → slice_index starts p ≤ s
+
+-- the number at a position is at least the commit of any who is noted there or at an earlier one of its key
+pub record AreLastCommits (h : List Event) (looks : List (List ℕ)) (ends : List ℕ) : Type 0 where
+  pub long : length ends ≡ length looks
+  pub last : (p q u t c : ℕ) (v w : KeyVersion) → IsAtPosition h p v → IsAtPosition h q w → w.key ≡ v.key → q ≤ p → HasReading looks q u → IsCommittedAt h u t → CommitsAt h t c → c ≤ slice_index ends p
+
 -- neighbours can be found
 pub record CanFind (n : Neighbours) : Type 0 where
   pub evidence : IsEvidence n.evidence
@@ -39,6 +51,8 @@ pub record CanFind (n : Neighbours) : Type 0 where
   pub looks : AreSeen n.evidence.index.now n.evidence.accesses.now n.looks.now
   pub passings : ArePassings n.evidence.accesses.now n.passings.items
   pub reaches : AreMinima (λ p. 4294967295 - p.to) n.passings.items n.reaches.items
+  pub starts : AreFirstStarts n.evidence.index.now n.starts.items
+  pub ends : AreLastCommits n.evidence.index.now n.looks.now n.ends.items
 
 -- how many ins there are at most, counted as often as they are found: each look and each range miss once
 abbrev pub most_ins : Neighbours → ℕ

@@ -2,11 +2,11 @@
 ghost use Rattle.std.specs.Prelude.{◌≡◌, ◌≢◌, ◌<◌, ◌≤◌, ◌+◌, ◌-◌, ◌*◌, ⊤, ℕ, All, IfOk, OnOk, count_by, length, vec_capacity};
 ghost use Rattle.sia_index.specs.Numbers.{IsCommittedAt};
 ghost use Rattle.sia_index.specs.Positions.{HasPosition};
-ghost use Rattle.sia_parts.specs.EdgeRows.{AreOrdered, noted_between};
+ghost use Rattle.sia_parts.specs.EdgeRows.{AreOrdered, AreSeen, IsOfKey, noted_between};
 ghost use Rattle.sia_parts.specs.Sights.{FromSome};
 ghost use Rattle.sia_graph.specs.declared.neighbours.Role.TheVariants.{In, Out, First};
 ghost use Rattle.sia_graph.specs.Evidence.{IsEvidence};
-ghost use Rattle.sia_graph.specs.Found.{AreEnds, ArePassings, BeginUpTo, CanFind, HasRoom, InCommits, IsLookerRow, IsPasserRow, OverlapAt, PutsMore, is_out, most_found, most_ins, most_outs};
+ghost use Rattle.sia_graph.specs.Found.{AreEnds, AreFirstStarts, AreLastCommits, ArePassings, BeginUpTo, CanFind, HasRoom, InCommits, IsLookerRow, IsPasserRow, OverlapAt, PutsMore, is_out, most_found, most_ins, most_outs};
 ghost use Rattle.sia_graph.specs.Links.{EndsBehind, IsVulnerableAt, OverlapsBehind};
 ghost use Rattle.sia_graph.specs.Late.{IsLastOf};
 ghost use Rattle.sia_graph.specs.Neighbours.{AreNeighbours, HasRole};
@@ -84,6 +84,10 @@ pub struct Neighbours<'a> {
     /// All range misses, by their first keys, and a tree over how far they reach.
     pub(crate) passings: Vec<Passing>,
     pub(crate) reaches: Vec<u64>,
+    /// For each position the least start of who made the version there or a later one of its key.
+    pub(crate) starts: Vec<u32>,
+    /// For each position the last commit of who saw the version there or an earlier one of its key.
+    pub(crate) ends: Vec<u32>,
 }
 
 impl<'a> Neighbours<'a> {
@@ -107,6 +111,8 @@ impl<'a> Neighbours<'a> {
             looks: &ordered.seen,
             passings,
             reaches,
+            starts: starts_of(alloc, index)?,
+            ends: ends_of(alloc, &evidence, &ordered.seen)?,
         })
     }
 
@@ -188,11 +194,18 @@ impl<'a> Neighbours<'a> {
             × OverlapsBehind self.now.evidence.index.now number position n.txn) (result - position)
             rows.old rows.new }
     {
-        let makers = self.evidence.index.makers_behind(position);
-        for maker in makers {
-            self.put_if_overlaps(number, *maker, Role::Out, rows);
+        let index = self.evidence.index;
+        let makers = index.makers_behind(position);
+        let end = position + 1 + makers.len() as u32;
+        let commit = index.lifetimes()[number as usize].commit;
+        for i in 0..makers.len() {
+            // This maker and those of all later versions start too late.
+            if commit <= self.starts[position as usize + 1 + i] {
+                return end;
+            }
+            self.put_if_overlaps(number, makers[i], Role::Out, rows);
         }
-        position + 1 + makers.len() as u32
+        end
     }
 
     /// Adds those who have a vulnerable edge to the transaction.
@@ -218,12 +231,17 @@ impl<'a> Neighbours<'a> {
         requires can { CanFind self.now }
         requires number { (t : ℕ) × IsCommittedAt self.now.evidence.index.now number t }
         requires from { from ≤ to }
-        requires to { HasPosition self.now.evidence.index.now to }
+        requires key { (j : ℕ) × IsOfKey self.now.evidence.index.now j from × IsOfKey self.now.evidence.index.now j to }
         requires room { HasRoom (noted_between self.now.looks.now from to) rows.old }
         ensures { PutsMore (IsLookerRow self.now number from to) (noted_between self.now.looks.now from to)
             rows.old rows.new }
     {
-        for position in from..to {
+        let start = self.evidence.index.lifetimes()[number as usize].start;
+        for position in (from..to).rev() {
+            // Who saw this version and all earlier ones commit too early.
+            if self.ends[position as usize] <= start {
+                return;
+            }
             for look in self.looks.at(position as usize) {
                 self.put_if_overlaps(number, *look, Role::In, rows);
             }
@@ -320,4 +338,45 @@ fn passings_of(alloc: Global, evidence: &Evidence) -> Result<Vec<Passing>, NoMem
     }
     passings.sort_unstable_by_key(|p| p.from);
     Ok(passings)
+}
+
+/// For each position the least start of who made the version there or a later one of its key, and 0 for those of version 0.
+fn starts_of(alloc: Global, index: &Index) -> Result<Vec<u32>, NoMemory>
+    ensures { IfOk result (λ starts. AreFirstStarts index.now starts.items) }
+{
+    let lifetimes = index.lifetimes();
+    let count = index.position_count();
+    let mut starts = vec![in alloc; 0u32; count as usize]?;
+    let mut least = u32::MAX;
+    for position in (0..count).rev() {
+        let Some(maker) = index.maker_at(position) else {
+            least = u32::MAX;
+            continue;
+        };
+        least = least.min(lifetimes[maker as usize].start);
+        starts[position as usize] = least;
+    }
+    Ok(starts)
+}
+
+/// For each position the last commit of who saw the version there or an earlier one of its key.
+fn ends_of(alloc: Global, evidence: &Evidence, looks: &Lists<u32>) -> Result<Vec<u32>, NoMemory>
+    requires evidence { IsEvidence evidence.now }
+    requires looks { AreSeen evidence.now.index.now evidence.now.accesses.now looks.now }
+    ensures { IfOk result (λ ends. AreLastCommits evidence.now.index.now looks.now ends.items) }
+{
+    let lifetimes = evidence.index.lifetimes();
+    let count = evidence.index.position_count();
+    let mut ends = Vec::with_capacity(alloc, count as usize)?;
+    let mut last = 0u32;
+    for position in 0..count {
+        if evidence.index.commit_at(position) == 0 {
+            last = 0;
+        }
+        for look in looks.at(position as usize) {
+            last = last.max(lifetimes[*look as usize].commit);
+        }
+        ends.push(last)?;
+    }
+    Ok(ends)
 }

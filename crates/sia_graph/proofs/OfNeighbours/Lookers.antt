@@ -1,5 +1,5 @@
 -- Who saw the versions from one position to another.
-use Rattle.std.proofs.Common.{◌≡◌, ◌⊎◌, inl, inr, ℕ, ◌+◌, ◌≤◌, [], subst, arith}
+use Rattle.std.proofs.Common.{◌≡◌, ◌⊎◌, inl, inr, ℕ, ◌+◌, ◌<◌, ◌≤◌, [], subst, arith}
 use Rattle.std.specs.Prelude.{◌↔◌, Contains, slice_index_or}
 use Rattle.std.proofs.lemmas.Bool.{cases_lt}
 use Rattle.sia_index.specs.Numbers.{IsCommittedAt}
@@ -17,11 +17,21 @@ module _ (n : Neighbours) (i : ℕ) where
   abbrev pub IsLookRow : ℕ → Neighbour → Type 0
   IsLookRow look row = IsInRow n.evidence.index.now i look row
 
-  pub lookers_more : (from q : ℕ) → from ≤ q → (row : Neighbour) → (IsLookerRow n i from q row ⊎ FromSome IsLookRow (slice_index_or n.looks.now q []) row) ↔ IsLookerRow n i from (q + 1) row
-  lookers_more from q low row = (
-    (λ e. elim e [ inl is ↦ (is.0, is.1, (let high = is.2 in omega arith), is.3) | inr f ↦ (q, low, omega arith, f) ]),
+  pub lookers_more : (q to : ℕ) → q < to → (row : Neighbour) → (IsLookerRow n i (q + 1) to row ⊎ FromSome IsLookRow (slice_index_or n.looks.now q []) row) ↔ IsLookerRow n i q to row
+  lookers_more q to below row = (
+    (λ e. elim e [ inl is ↦ (is.0, (let low = is.1 in omega arith), is.2, is.3) | inr f ↦ (q, omega arith, below, f) ]),
+    (λ is. elim (cases_lt q is.0) [
+      | inl behind ↦ inl (is.0, omega arith, is.2, is.3)
+      | inr first ↦ let here : is.0 ≡ q = (let low = is.1 in omega arith) in inr (subst (λ p. FromSome IsLookRow (slice_index_or n.looks.now p []) row) here is.3)
+    ]),
+  )
+
+  -- where who saw a version before position q, from that at `from` on, commits too early
+  pub lookers_stop : (from q to : ℕ) → from ≤ q → ((p : ℕ) (row : Neighbour) → from ≤ p → p < q → ¬ FromSome IsLookRow (slice_index_or n.looks.now p []) row) → (row : Neighbour) → IsLookerRow n i q to row ↔ IsLookerRow n i from to row
+  lookers_stop from q to le none row = (
+    (λ is. (is.0, (let low = is.1 in omega arith), is.2, is.3)),
     (λ is. elim (cases_lt is.0 q) [
-      | inl below ↦ inl (is.0, is.1, below, is.3)
-      | inr last ↦ let here : is.0 ≡ q = (let high = is.2 in omega arith) in inr (subst (λ p. FromSome IsLookRow (slice_index_or n.looks.now p []) row) here is.3)
+      | inl before ↦ absurd (none is.0 row is.1 before is.3)
+      | inr most ↦ (is.0, most, is.2, is.3)
     ]),
   )

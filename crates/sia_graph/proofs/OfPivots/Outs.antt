@@ -128,9 +128,10 @@ module _ (h : List Event) (i : ℕ) where
   )
 
   -- those of the makers behind a position are all behind it
-  pub makers_all : (q : ℕ) (v : KeyVersion) → IsAtPosition h q v → (makers : List ℕ) → AreMakersBehind h q v makers → (n : ℕ) → length makers ≤ n → (j : ℕ) → FromFirst (OverlapsMaker h i) makers n j ↔ OverlapsBehind h i q j
+  pub makers_all : (q : ℕ) (v : KeyVersion) → IsAtPosition h q v → (makers : List ℕ) → AreMakersBehind h q v makers → (n : ℕ) → ((j : ℕ) → FromFirst (OverlapsMaker h i) makers n j ↔ FromSome (OverlapsMaker h i) makers j)
+      → (j : ℕ) → FromFirst (OverlapsMaker h i) makers n j ↔ OverlapsBehind h i q j
   makers_all q v at makers behind n all j =
-      let some = first_all (OverlapsMaker h i) makers n all j in (
+      let some = all j in (
         (λ f.
             let (maker, c, p) = some.0 f in
             let w = behind.each c.0 maker c.1 in

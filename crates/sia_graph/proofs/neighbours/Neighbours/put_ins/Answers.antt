@@ -6,6 +6,7 @@ use Rattle.std.proofs.lemmas.List.Elements.{Contains-get_or}
 use Rattle.sia_parts.specs.EdgeRows.{IsMadeAt, noted_before, noted_between}
 use Rattle.sia_parts.specs.Sights.{FromSome}
 use Rattle.sia_parts.proofs.EdgeRows.AccessRows.{first_last}
+use Rattle.sia_parts.proofs.EdgeRows.PositionOrder.{made_of_key}
 use Rattle.sia_parts.proofs.EdgeRows.Room.{noted_all, noted_rises}
 use Rattle.sia_parts.proofs.Shared.Adding.{from_none}
 use Rattle.sia_graph.specs.declared.neighbours.Neighbour.{Neighbour}
@@ -55,8 +56,11 @@ fits c = (let at = between c in let low = noted_rises c.args.self.now.looks.now 
 pub put_lookers-requires-clause-from : goal.put_lookers-requires-clause-from
 put_lookers-requires-clause-from c = (between (goal.at.put_lookers-requires-clause-from c).After-first_position).1
 
-pub put_lookers-requires-clause-to : goal.put_lookers-requires-clause-to
-put_lookers-requires-clause-to c = let is = next (goal.at.put_lookers-requires-clause-to c).After-key_at-key in (is.0, is.1)
+pub put_lookers-requires-clause-key : goal.put_lookers-requires-clause-key
+put_lookers-requires-clause-key c =
+    let own = here (goal.at.put_lookers-requires-clause-key c).After-key_at-key in
+    let first = c.first_position.ensures in
+    (c.key_at-key.result, record { version = first.0; at = first.1; key = first.2 }, made_of_key c.args.self.now.evidence.index.now c.args.number c.key_at-key.result _ own)
 
 pub put_lookers-requires-clause-room : goal.put_lookers-requires-clause-room
 put_lookers-requires-clause-room c =
