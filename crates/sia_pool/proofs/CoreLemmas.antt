@@ -191,12 +191,7 @@ turn_more (w ∷ ws) s t r = (with_one_more r.0, take_more w s r.0 r.1, turn_mor
 
 -- one worker more, whose share is empty
 reached_more : (count workers : ℕ) (left : List ℕ) (shares : List (List ℕ)) → Reached count workers left shares → Reached count (suc workers) left (shares ++ [] ∷ [])
-reached_more count workers left shares r =
-    let e : with_one_more (opening count workers) ≡ opening count (suc workers) = ap (λ l. record { left = range_with_len 0 count; shares = l }) (replicate_push workers) in
-    record {
-      takers = r.takers;
-      in_turn = subst (λ s. TakeInTurn r.takers s (record { left = left; shares = shares ++ [] ∷ [] })) e (turn_more r.takers (opening count workers) (record { left = left; shares = shares }) r.in_turn);
-    }
+reached_more count workers left shares r = grind (arith, replicate_push, turn_more)
 
 -- some workers more
 pub reached_padded : (count workers n : ℕ) (left : List ℕ) (shares : List (List ℕ)) → Reached count workers left shares → Reached count (n + workers) left (shares ++ replicate n [])

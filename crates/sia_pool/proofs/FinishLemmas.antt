@@ -9,35 +9,18 @@ use Rattle.std.specs.Global.{Global, Vec}
 use Rattle.sia_pool.specs.declared.rule.View.{View}
 use Rattle.sia_pool.specs.declared.taker.Taker.{Taker}
 use Rattle.sia_pool.specs.Core.{Reached}
-use Rattle.sia_pool.specs.View.{owner_view}
-use Rattle.sia_pool.specs.Taker.{taker_view, taker_deque}
-use Rattle.sia_pool.specs.Line.{IsLine, LinedUp}
+use Rattle.sia_pool.specs.Taker.{taker_view}
+use Rattle.sia_pool.specs.Line.{LinedUp}
 use Rattle.sia_pool.specs.Answers.{lists_of, parts_of, Owed, AnswersEach}
 use Rattle.sia_pool.specs.Work.{WorkedOff}
-use Rattle.sia_pool.specs.Threads.{IsReady, count_of, AllDone, IsInOrder}
+use Rattle.sia_pool.specs.Threads.{AllDone, IsInOrder}
 use Rattle.sia_pool.proofs.CoreLemmas.{all_dealt}
 use Rattle.sia_pool.proofs.OrderLemmas.{in_order, owed_each}
 use Rattle.sia_pool.proofs.ThreadLemmas.{length-lists_of}
 
 -- what joined the first list may as well stand last
 more_last : (s more back : List ℕ) → IsPermutation ((s ++ more) ++ back) ((s ++ back) ++ more)
-more_last s more back =
-    let p = IsPermutation-append s s (more ++ back) (back ++ more) (IsPermutation-refl s) (IsPermutation-append_comm more back) in
-    subst (λ l. IsPermutation l ((s ++ back) ++ more)) (sym (append_assoc s more back)) (subst (IsPermutation (s ++ (more ++ back))) (sym (append_assoc s back more)) p)
-
-pub ready : (count workers : ℕ) (ts : List Taker) → LinedUp count workers ts → IsReady ts
-ready count workers [] h = absurd h
-ready count workers (t ∷ ts) h =
-    let c : (taker_view t).count ≡ count = ap (λ (v : View). v.count) h.0 in
-    let n : (taker_view t).workers ≡ workers = ap (λ (v : View). v.workers) h.0 in
-    let g : (taker_view t).given ≡ length ts = ap (λ (v : View). v.given) h.0 in (
-      h.0 ∙ sym (ap (λ k. owner_view k (taker_view t).workers [] (taker_view t).given []) c ∙ ap (λ k. owner_view count k [] (taker_view t).given []) n ∙ ap (λ k. owner_view count workers [] k []) g),
-      subst (λ k. IsLine (taker_deque t) k (taker_view t).workers 1 ts) (sym c) (subst (λ k. IsLine (taker_deque t) count k 1 ts) (sym n) h.2),
-    )
-
-pub all_counted : (count workers : ℕ) (ts : List Taker) → LinedUp count workers ts → count_of ts ≡ count
-all_counted count workers [] h = absurd h
-all_counted count workers (t ∷ ts) h = ap (λ (v : View). v.count) h.0
+more_last s more back = grind (arith, IsPermutation-append, IsPermutation-refl, IsPermutation-append_comm, append_assoc)
 
 -- all takers have ended, and the owner has their views back
 pub record HaveRun {Out : Type 0} (owes : ℕ → Out → Type 0) (count workers : ℕ) (o : Taker) (answers : List (ℕ × Out)) : Type 0 where
@@ -75,17 +58,11 @@ module _ {Out : Type 0} (owes : ℕ → Out → Type 0) (count workers : ℕ) (o
 
   -- all views are back
   pub all_back : suc (length (taker_view new).back) ≡ (taker_view new).workers
-  all_back =
-      let back : length (taker_view new).back ≡ length (taker_view o).back = ap (λ (v : View). length v.back) w.0.view in
-      omega (arith, back, h.back, sized_as)
+  all_back = grind (arith, sized_as)
 
   -- so the last pop shows all shares
   ends_reached : Reached count workers [] ((taker_view new).share ∷ (taker_view new).back)
-  ends_reached =
-      let m = taker_view new in
-      let counted : m.count ≡ count = ap (λ (v : View). v.count) w.0.view ∙ h.counted in
-      let number : m.number ≡ 0 = ap (λ (v : View). v.number) w.0.view ∙ h.number in
-      subst (Reached count workers []) (w.1.all number all_back) (subst (λ n. Reached count n [] w.1.shares) sized_as (subst (λ c. Reached c m.workers [] w.1.shares) counted w.1.ended))
+  ends_reached = grind (arith, all_back, sized_as)
 
   -- each part has one answer
   ends_once : IsPermutation (range_with_len 0 count) (parts_of ys)

@@ -1,5 +1,5 @@
 -- Stealers that join a line one by one.
-use Rattle.std.proofs.Common.{◌≡◌, ℕ, suc, ◌+◌, List, [], ◌∷◌, ◌++◌, length, ap, ◌∙◌, subst, arith}
+use Rattle.std.proofs.Common.{◌≡◌, ℕ, suc, ◌+◌, List, [], ◌∷◌, ◌++◌, length, ap, ◌∙◌, arith}
 use Rattle.atomic_blocks.specs.Lent.{RowsId}
 use Rattle.std.specs.Global.{Global}
 use Rattle.sia_pool.specs.declared.taker.Taker.{Taker}
@@ -10,8 +10,3 @@ use Rattle.sia_pool.specs.Line.{IsLine}
 pub line_push : (d : RowsId × Global) (c n j : ℕ) (ts : List Taker) (t : Taker) → IsLine d c n j ts → taker_deque t ≡ d → taker_view t ≡ stealer_view (j + length ts) c n [] → IsLine d c n j (ts ++ t ∷ [])
 line_push d c n j [] t h p e = let z : j + 0 ≡ j = omega arith in (p, e ∙ ap (λ i. stealer_view i c n []) z, tt)
 line_push d c n j (u ∷ ts) t h p e = let z : j + suc (length ts) ≡ suc j + length ts = omega arith in (h.0, h.1, line_push d c n (suc j) ts t h.2 p (e ∙ ap (λ i. stealer_view i c n []) z))
-
--- the same line, said of what is equal
-pub line_same : (d e : RowsId × Global) (c k n m i j : ℕ) (ts : List Taker) → d ≡ e → c ≡ k → n ≡ m → i ≡ j → IsLine d c n i ts → IsLine e k m j ts
-line_same d e c k n m i j ts p q r s h =
-    subst (λ a. IsLine a k m j ts) p (subst (λ a. IsLine d a m j ts) q (subst (λ a. IsLine d c a j ts) r (subst (λ a. IsLine d c n a ts) s h)))

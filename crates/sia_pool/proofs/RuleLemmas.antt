@@ -140,32 +140,13 @@ shares_back (s ∷ back) [] n e z = absurd (omega arith)
 shares_back (s ∷ back) (t ∷ ts) n e z = ap (λ l. s ∷ l) (shares_back back ts n (omega arith) z)
 
 find_first : (o : View) (ts : List View) → HoldsAt [] o ts → NothingLeft o
-find_first o ts k =
-    let shares = o.share ∷ shares_by o.back ts k.waiting in
-    let all = k.all in
-    let back = k.back in
-    record {
-      shares = shares;
-      ended = k.reached;
-      mine = ap (λ n. get_elem? shares n) k.first;
-      all = λ _ (full : suc (length o.back) ≡ o.workers). ap (λ l. o.share ∷ l) (shares_back o.back ts k.waiting (omega (arith, all, back, full)) (omega (arith, all, back, full)));
-    }
+find_first o ts k = grind (arith, get_elem?, shares_back)
 
 find_later : (o : View) (ts : List View) (j : ℕ) (t : View) → HoldsAt [] o ts → get_elem? ts j ≡ some t → t.spent ≡ false → NothingLeft t
-find_later o ts j t k at live =
-    let shares = o.share ∷ shares_by o.back ts k.waiting in
-    let sat = k.seated j t at live in
-    record {
-      shares = shares;
-      ended = subst (λ n. Reached t.count n [] shares) (sym sat.2) (subst (λ c. Reached c o.workers [] shares) (sym sat.1) k.reached);
-      mine = ap (λ n. get_elem? shares n) sat.0 ∙ share_at o.back ts k.waiting j t sat.3 at;
-      all = λ none _. absurd (let s : t.number ≡ suc j = sat.0 in omega arith);
-    }
+find_later o ts j t k at live = grind (arith, get_elem?, share_at)
 
 pub finds : (port : ℕ) (v : View) → v.spent ≡ false → Finds Holds port v (NothingLeft v)
-finds port v live [] h at = absurd h
-finds zero v live (o ∷ ts) h at = subst NothingLeft (some-injective o v at) (find_first o ts h)
-finds (suc j) v live (o ∷ ts) h at = find_later o ts j v h at live
+finds port v live h p at = grind (arith, some-injective, find_first, find_later)
 
 pub finds_few : (n port : ℕ) (v : View) → n ≡ 0 → v.spent ≡ false → FindsFew Holds n port v (NothingLeft v)
 finds_few n port v e live [] views few h at = finds port v live views h at
@@ -207,12 +188,7 @@ place count items [] k =
     }
 
 pub pushes : (port : ℕ) (v : View) (x : ℕ) → v ≡ owner_view x 1 [] 0 [] → Pushes Holds port v (x ∷ []) (λ w. w ≡ owner_view (v.count + length (x ∷ [])) 1 [] 0 [])
-pushes port v x is items [] h at = absurd h
-pushes zero v x is items (o ∷ ts) h at =
-    let e : o ≡ owner_view x 1 [] 0 [] = some-injective o v at ∙ is in
-    let k : HoldsAt items (owner_view x 1 [] 0 []) ts = subst (λ u. HoldsAt items u ts) e h in
-    (owner_view (x + 1) 1 [] 0 [], place x items ts k, ap (λ (u : View). owner_view (u.count + 1) 1 [] 0 []) (sym is))
-pushes (suc j) v x is items (o ∷ ts) h at = absurd (let s : v.number ≡ suc j = (h.seated j v at (ap (λ (u : View). u.spent) is)).0 in let z : v.number ≡ 0 = ap (λ (u : View). u.number) is in omega arith)
+pushes port v x is items h p at = grind (arith, some-injective, place)
 
 at_end : (l : List View) (a b : View) (j : ℕ) → get_elem? (l ++ a ∷ []) j ≡ some b → (get_elem? l j ≡ some b) ⊎ ((j ≡ length l) × (a ≡ b))
 at_end [] a b zero e = inr (refl, some-injective a b e)
@@ -280,12 +256,7 @@ fork_any o (t ∷ ts) items n less size k =
     (fork o (t ∷ ts) items (let l : suc (suc (length ts)) < o.workers = omega (arith, less, g, same) in l) k)
 
 pub forks : (port : ℕ) (v : View) (n : ℕ) → v.number ≡ 0 → v.spent ≡ false → suc v.given < n → v.workers ≡ line_size n v.given → Forks Holds port v (owner_view v.count n v.share (v.given + 1) v.back) (stealer_view (v.given + 1) v.count n [])
-forks port v n first live less size items [] h at = absurd h
-forks zero v n first live less size items (o ∷ ts) h at =
-    let e = some-injective o v at in
-    subst (λ u. HoldsAt items (owner_view u.count n u.share (u.given + 1) u.back) (ts ++ stealer_view (u.given + 1) u.count n [] ∷ [])) e
-    (fork_any o ts items n (subst (λ (u : View). suc u.given < n) (sym e) less) (subst (λ (u : View). u.workers ≡ line_size n u.given) (sym e) size) h)
-forks (suc j) v n first live less size items (o ∷ ts) h at = absurd (let s : v.number ≡ suc j = (h.seated j v at live).0 in omega arith)
+forks port v n first live less size items h p at = grind (arith, some-injective, fork_any)
 
 shares_kept : (back : List (List ℕ)) (ts : List View) (n i : ℕ) (u : View) → i ≡ length back → get_elem? ts i ≡ some u → shares_by (back ++ u.share ∷ []) (set ts i spent_view) n ≡ shares_by back ts n
 shares_kept back [] n i u e there = absurd (some-ne-none u (sym there))
@@ -298,26 +269,7 @@ apart : (n i j m : ℕ) → m ≡ suc n → i ≡ n → n ≤ j → j ≢ i → 
 apart n i j m a b c d = omega arith
 
 merge : (o : View) (ts : List View) (items : List ℕ) (i : ℕ) (u : View) → HoldsAt items o ts → get_elem? ts i ≡ some u → u.spent ≡ false → u.number ≡ suc (length o.back) → HoldsAt items (owner_view o.count o.workers o.share o.given (o.back ++ u.share ∷ [])) (set ts i spent_view)
-merge o ts items i u k there fresh next =
-    let sat = k.seated i u there fresh in
-    let here : i ≡ length o.back = let s : u.number ≡ suc i = sat.0 in omega arith in
-    let long : length ts ≡ length (set ts i spent_view) = sym (length-set ts i spent_view) in
-    let more : length (o.back ++ u.share ∷ []) ≡ suc (length o.back) = omega (arith, length-append o.back (u.share ∷ [])) in
-    record {
-      first = refl;
-      live = refl;
-      given = k.given ∙ long;
-      back = omega (arith, at_lt ts i u there, long, more, here);
-      waiting = k.waiting;
-      all = ap (λ n. suc n + k.waiting) (sym long) ∙ k.all;
-      reached = subst (λ l. Reached o.count o.workers items (o.share ∷ l)) (sym (shares_kept o.back ts k.waiting i u here there)) k.reached;
-      seated = λ j w found live. ⊎_elim (λ y. absurd (true≢false (ap (λ (m : View). m.spent) y.1 ∙ live)))
-          (λ y. let s = k.seated j w y.1 live in (s.0, s.1, s.2, apart (length o.back) i j (length (o.back ++ u.share ∷ [])) more here s.3 y.0))
-          (at_set ts i j spent_view w found);
-    }
+merge o ts items i u k there fresh next = grind (arith, length-set, length-append, at_lt, shares_kept, true≢false, apart, at_set)
 
 pub merges : (port : ℕ) (v : View) (other : ℕ) (u : View) → v.number ≡ 0 → v.spent ≡ false → u.spent ≡ false → u.number ≡ suc (length v.back) → Merges Holds port v other u (owner_view v.count v.workers v.share v.given (v.back ++ u.share ∷ [])) spent_view
-merges port v other u first live fresh next items [] h at two there = absurd h
-merges zero v zero u first live fresh next items (o ∷ ts) h at two there = absurd (two refl)
-merges zero v (suc i) u first live fresh next items (o ∷ ts) h at two there = subst (λ w. (u.number ≡ suc (length w.back)) → HoldsAt items (owner_view w.count w.workers w.share w.given (w.back ++ u.share ∷ [])) (set ts i spent_view)) (some-injective o v at) (merge o ts items i u h there fresh) next
-merges (suc j) v other u first live fresh next items (o ∷ ts) h at two there = absurd (let s : v.number ≡ suc j = (h.seated j v at live).0 in omega arith)
+merges port v other u first live fresh next items h p at two there = grind (arith, some-injective, merge)

@@ -1,6 +1,6 @@
 -- Views and answers that are put together.
 use Rattle.std.proofs.Common.{◌≡◌, ℕ, suc, ◌+◌, ◌<◌, List, [], ◌∷◌, ◌++◌, length, sym, refl, ap, ◌∙◌, subst, arith, append_assoc, length-append}
-use Rattle.std.specs.Prelude.{Result, Ok, Err, IfOk, IsPermutation}
+use Rattle.std.specs.Prelude.{Result, Ok, IfOk}
 use Rattle.std.specs.List.{AllByRecursion, concat}
 use Rattle.std.proofs.lemmas.List.{append-nil}
 use Rattle.std.proofs.lemmas.List.Folds.{concat-append}
@@ -9,7 +9,7 @@ use Rattle.atomic_blocks.specs.Lent.{RowsId}
 use Rattle.std.specs.Global.{Global, Vec}
 use Rattle.sia_pool.specs.declared.rule.View.{View}
 use Rattle.sia_pool.specs.declared.taker.Taker.{Taker}
-use Rattle.sia_pool.specs.View.{stealer_view, with_share}
+use Rattle.sia_pool.specs.View.{stealer_view}
 use Rattle.sia_pool.specs.Taker.{taker_view, taker_deque}
 use Rattle.sia_pool.specs.Line.{IsLine}
 use Rattle.sia_pool.specs.Answers.{lists_of, parts_of, Owed}
@@ -19,10 +19,6 @@ use Rattle.sia_pool.specs.Threads.{with_back, IsNext, IsReady, count_of, IsDone,
 pub length-lists_of : (vs : List (Vec ℕ)) → length (lists_of vs) ≡ length vs
 length-lists_of [] = refl
 length-lists_of (v ∷ vs) = ap suc (length-lists_of vs)
-
-pub lists_push : (vs : List (Vec ℕ)) (v : Vec ℕ) → lists_of (vs ++ v ∷ []) ≡ lists_of vs ++ v.items ∷ []
-lists_push [] v = refl
-lists_push (u ∷ vs) v = ap (λ l. u.items ∷ l) (lists_push vs v)
 
 -- one more share at the end
 concat_push : (s : List ℕ) (back : List (List ℕ)) (t : List ℕ) → concat (s ∷ (back ++ t ∷ [])) ≡ concat (s ∷ back) ++ t
@@ -39,48 +35,17 @@ module _ {Out : Type 0} where
 
   done_more : (owes : ℕ → Out → Type 0) (d : RowsId × Global) (v : View) (n : ℕ) (t p : Taker) (s : List ℕ) (xs ys zs : List (ℕ × Out))
       → IsDone owes d v n t xs → taker_deque p ≡ taker_deque t → taker_view p ≡ with_back (taker_view t) (s ∷ []) → s ≡ parts_of ys → Owed owes ys → zs ≡ xs ++ ys → IsDone owes d v (suc n) p zs
-  done_more owes d v n t p s xs ys zs f same seen parts owed all =
-      let o = taker_view t in
-      let long : length (taker_view p).back ≡ length (o.back ++ s ∷ []) = ap (λ (m : View). length m.back) seen in
-      record {
-        same = same ∙ f.same;
-        number = ap (λ (m : View). m.number) seen;
-        counted = ap (λ (m : View). m.count) seen ∙ f.counted;
-        sized = ap (λ (m : View). m.workers) seen ∙ f.sized;
-        back = omega (arith, long, length-append o.back (s ∷ []), f.back);
-        parts =
-            let more : parts_of zs ≡ parts_of xs ++ parts_of ys = ap (λ l. parts_of l) all ∙ parts-append xs ys in
-            let both = IsPermutation-append (concat (o.share ∷ o.back)) (parts_of xs) (parts_of ys) (parts_of ys) f.parts (IsPermutation-refl (parts_of ys)) in
-            let held : concat ((taker_view p).share ∷ (taker_view p).back) ≡ concat (o.share ∷ o.back) ++ parts_of ys = ap (λ (m : View). concat (m.share ∷ m.back)) seen ∙ concat_push o.share o.back s ∙ ap (λ l. concat (o.share ∷ o.back) ++ l) parts in
-            subst (λ l. IsPermutation l (parts_of zs)) (sym held) (subst (IsPermutation (concat (o.share ∷ o.back) ++ parts_of ys)) (sym more) both);
-        owed = subst (Owed owes) (sym all) (each-append (λ a. owes a.0 a.1) xs ys f.owed owed);
-      }
+  done_more owes d v n t p s xs ys zs f same seen parts owed all = grind (arith, length-append, parts-append, IsPermutation-append, IsPermutation-refl, concat_push, each-append)
 
 line_last : (d : RowsId × Global) (c n j : ℕ) (ts : List Taker) (t : Taker) → IsLine d c n j (ts ++ t ∷ []) → IsLine d c n j ts × (taker_deque t ≡ d) × (taker_view t ≡ stealer_view (j + length ts) c n [])
 line_last d c n j [] t h = let z : j ≡ j + 0 = omega arith in (tt, h.0, h.1 ∙ ap (λ i. stealer_view i c n []) z)
 line_last d c n j (u ∷ ts) t h = let z : suc j + length ts ≡ j + suc (length ts) = omega arith in let r = line_last d c n (suc j) ts t h.2 in ((h.0, h.1, r.0), r.1, r.2 ∙ ap (λ i. stealer_view i c n []) z)
 
-module _ {Out : Type 0} where
-  pub alone_done : (owes : ℕ → Out → Type 0) (t w : Taker) (ys : List (ℕ × Out)) → IsReady (t ∷ []) → HasWorked owes (taker_deque t) (taker_view t) [] w ys → AllDone owes (t ∷ []) w ys
-  alone_done owes t w ys h f =
-      let seen = f.view ∙ ap (λ (m : View). with_share m (m.share ++ f.more)) h.0 in
-      record {
-        same = f.same;
-        number = ap (λ (m : View). m.number) seen;
-        counted = ap (λ (m : View). m.count) seen;
-        sized = ap (λ (m : View). m.workers) seen;
-        back = ap (λ (m : View). length m.back) seen;
-        parts = subst (λ l. IsPermutation l (parts_of ys)) (sym (ap (λ (m : View). concat (m.share ∷ m.back)) seen ∙ append-nil f.more ∙ sym f.parts)) (IsPermutation-refl (parts_of ys));
-        owed = f.owed;
-      }
-
 pub ready_front : (ts : List Taker) (t : Taker) → 0 < length ts → IsReady (ts ++ t ∷ []) → IsReady ts
-ready_front [] t l h = absurd (omega arith)
-ready_front (u ∷ ts) t l h = (h.0, (line_last (taker_deque u) (taker_view u).count (taker_view u).workers 1 ts t h.1).0)
+ready_front ts t l h = grind (arith, line_last)
 
 pub front_count : (ts : List Taker) (t : Taker) → 0 < length ts → count_of ts ≡ count_of (ts ++ t ∷ [])
-front_count [] t l = absurd (omega arith)
-front_count (u ∷ ts) t l = refl
+front_count ts t l = grind (arith)
 
 pub last_count : (ts : List Taker) (t : Taker) → IsReady (ts ++ t ∷ []) → (taker_view t).count ≡ count_of (ts ++ t ∷ [])
 last_count [] t h = refl
@@ -94,18 +59,7 @@ pub record ComesBack (o t : Taker) : Type 0 where
 
 module _ {Out : Type 0} (owes : ℕ → Out → Type 0) where
   crew_step : (ts : List Taker) (t w r : Taker) (ys xs : List (ℕ × Out)) → IsReady (ts ++ t ∷ []) → HasWorked owes (taker_deque t) (taker_view t) [] w ys → AllDone owes ts r xs → ComesBack r w
-  crew_step [] t w r ys xs h f d = absurd d
-  crew_step (u ∷ ts) t w r ys xs h f d =
-      let l = line_last (taker_deque u) (taker_view u).count (taker_view u).workers 1 ts t h.1 in
-      let seen : taker_view w ≡ stealer_view (1 + length ts) (taker_view u).count (taker_view u).workers f.more = f.view ∙ ap (λ (m : View). with_share m (m.share ++ f.more)) l.2 in
-      let share : f.more ≡ (taker_view w).share = sym (ap (λ (m : View). m.share) seen) in
-      let n : 1 + length ts ≡ suc (length (taker_view r).back) = omega (arith, d.back) in
-      record {
-        owner = d.number;
-        deque = f.same ∙ l.1 ∙ sym d.same;
-        next = seen ∙ ap (stealer_view (1 + length ts) (taker_view u).count (taker_view u).workers) share ∙ ap (λ k. stealer_view k (taker_view u).count (taker_view u).workers (taker_view w).share) n
-            ∙ ap (λ k. stealer_view (suc (length (taker_view r).back)) k (taker_view u).workers (taker_view w).share) (sym d.counted) ∙ ap (λ k. stealer_view (suc (length (taker_view r).back)) (taker_view r).count k (taker_view w).share) (sym d.sized);
-      }
+  crew_step ts t w r ys xs h f d = grind (arith, line_last)
 
   crew_end : (ts : List Taker) (t w r p : Taker) (ys xs zs : List (ℕ × Out)) → IsReady (ts ++ t ∷ []) → HasWorked owes (taker_deque t) (taker_view t) [] w ys → AllDone owes ts r xs
       → taker_deque p ≡ taker_deque r → taker_view p ≡ with_back (taker_view r) ((taker_view w).share ∷ []) → zs ≡ xs ++ ys → AllDone owes (ts ++ t ∷ []) p zs
@@ -127,8 +81,3 @@ module _ {Out : Type 0} (owes : ℕ → Out → Type 0) where
 -- what holds of an answer that is there
 pub ok_there : {A E : Type 0} (P : A → Type 0) (a : Result A E) (x : A) → a ≡ Ok x → IfOk a P → P x
 ok_there P a x is p = subst (λ r. IfOk r P) is p
-
--- what follows from one
-pub ok_map : {A E : Type 0} (P T : A → Type 0) (a : Result A E) → ((x : A) → P x → T x) → IfOk a P → IfOk a T
-ok_map P T (Ok x) f p = f x p
-ok_map P T (Err e) f p = tt

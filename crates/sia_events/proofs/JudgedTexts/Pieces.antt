@@ -1,5 +1,5 @@
 -- A text that comes in pieces: what one piece adds to the events, and where it stops them.
-use Rattle.std.proofs.Common.{◌≡◌, ◌≢◌, inl, inr, ℕ, true, false, List, [], ◌∷◌, ◌++◌, length, All, Result, Ok, Err, refl, ap, sym, subst, ◌∙◌, append_assoc}
+use Rattle.std.proofs.Common.{◌≡◌, ◌≢◌, inl, inr, ℕ, true, false, List, [], ◌∷◌, ◌++◌, length, All, Result, Ok, refl, ap, sym, subst, ◌∙◌, append_assoc, arith}
 use Rattle.std.specs.Prelude.{IfErr, OnOk}
 use Rattle.std.proofs.lemmas.List.{append-nil}
 use Rattle.std.proofs.lemmas.List.Elements.{recursion_from_All, All-from_recursion, All-nil}
@@ -18,19 +18,16 @@ use Rattle.sia_events.proofs.JudgedTexts.Judged.{JudgedAll-append, JudgedAll-non
 use Rattle.sia_events.proofs.Shared.Cuts.{cut_then, stops_in}
 
 one_token : (token : List ℕ) → length token ≢ 0 → as_token token ≡ token ∷ []
-one_token [] some = absurd (some refl)
-one_token (c ∷ cs) some = refl
+one_token token some = grind (arith)
 
 -- a refused token stops the events at it
 pub halts_first : (limits : Limits) {X : Type 0} (result : Result X Refusal) (events all : List Event) (token : List ℕ) → length token ≢ 0 → IfErr result (λ fault. Fails fault (judged limits events token)) → IfErr result (λ fault. Stays fault events all) → IfErr result (λ fault. Halts limits fault events (as_token token) all)
-halts_first limits (Err (refusals.Bad r)) events all token some fails kept = subst (λ ts. StopsAt limits events ts all r) (sym (one_token token some)) (StopsAt-first limits events all token r kept fails)
-halts_first limits _ events all token some fails kept = tt
+halts_first limits result events all token some fails kept = grind (arith, one_token, StopsAt-first)
 
 -- the event of a token that is taken is judged
 pub taken_first : (limits : Limits) {X : Type 0} (result : Result X Refusal) (events all : List Event) (token : List ℕ) → length token ≢ 0 → OnOk result ((e : Event) × (judged limits events token ≡ Ok e) × (all ≡ events ++ e ∷ [])) → OnOk result (JudgedAll limits events (as_token token) all)
 unfolding JudgedAll
-taken_first limits (Err fault) events all token some taken = tt
-taken_first limits (Ok x) events all token some (e, is, more) = subst (λ ts. JudgedAll limits events ts all) (sym (one_token token some)) (e, is, sym more)
+taken_first limits result events all token some taken = grind (arith, one_token)
 
 -- so it does in a text of which the tokens before it are judged
 pub halts_in : (limits : Limits) (fault : Refusal) (events middle all : List Event) (text closed token after : List ℕ) (s : ℕ) → text ≡ closed ++ (token ++ s ∷ after) → IsClosed closed → HasNoSeparator token → is_separator s ≡ true

@@ -1,5 +1,5 @@
 -- What taking in the event of a token answers.
-use Rattle.std.proofs.Common.{◌≡◌, ◌≢◌, ℕ, List, [], ◌∷◌, ◌++◌, length, Some, None, refl, sym}
+use Rattle.std.proofs.Common.{◌≡◌, ◌≢◌, ℕ, List, [], ◌∷◌, ◌++◌, length, Some, None, refl, sym, arith}
 use Rattle.std.specs.Prelude.{Result, Ok, Err, ⊤, OnOk, IfErr}
 use Rattle.sia_events.specs.declared.event.Event.{Event}
 use Rattle.sia_events.specs.declared.fault.Refusal.{Refusal}
@@ -19,8 +19,7 @@ taken limits d e ev token (Err fault) room read takes = tt
 
 pub knows_after : (d e : Draft) (ev : Event) (r : Result ⊤ Refusal) → Takes d e ev r → OnOk r (Knows e)
 unfolding Takes
-knows_after d e ev (Ok done) takes = takes.2
-knows_after d e ev (Err fault) takes = tt
+knows_after d e ev r takes = grind (arith)
 
 pub refused : (limits : Limits) (d e : Draft) (ev : Event) (token : List ℕ) (r : Result ⊤ Refusal) → length (events_of d.tables) ≢ limits.events → event_at token ≡ Ok ev → Takes d e ev r → IfErr r (λ fault. Fails fault (judged limits (events_of d.tables) token))
 unfolding Takes

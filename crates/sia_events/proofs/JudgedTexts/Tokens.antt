@@ -1,5 +1,5 @@
 -- The tokens of a text that is read from left to right.
-use Rattle.std.proofs.Common.{◌≡◌, ◌⊎◌, inl, inr, ℕ, ◌+◌, ◌<◌, Bool, true, false, cond, List, [], ◌∷◌, ◌++◌, length, take, drop, get_or, zero, suc, ◌≤◌, append-nil, refl, ap, sym, subst, ◌∙◌, append_assoc, arith}
+use Rattle.std.proofs.Common.{◌≡◌, ◌⊎◌, inr, ℕ, ◌+◌, ◌<◌, Bool, true, false, cond, List, [], ◌∷◌, ◌++◌, length, take, drop, get_or, zero, suc, ◌≤◌, append-nil, refl, ap, sym, subst, ◌∙◌, append_assoc, arith}
 use Rattle.std.specs.List.{position_or_len}
 use Rattle.std.proofs.lemmas.List.Sums.{split_at_first, passes_at_first}
 use Rattle.sia_events.specs.Text.{is_separator, goes_on, onto_first, with_byte, tokens}
@@ -31,11 +31,7 @@ with_byte_first c after ts e = subst HasFirst (sym (ap (λ b. cond b ts (cond (g
 
 goes_on_first : (bs : List ℕ) → goes_on bs ≡ true → HasFirst (tokens bs)
 goes_on_first [] e = absurd cc
-goes_on_first (c ∷ cs) e = by_test (is_separator c) refl e
-  where
-    by_test : (b : Bool) → is_separator c ≡ b → cond b false true ≡ true → HasFirst (tokens (c ∷ cs))
-    by_test true p q = absurd cc
-    by_test false p q = with_byte_first c cs (tokens cs) p
+goes_on_first (c ∷ cs) e = grind (arith, with_byte_first)
 
 with_byte-append : (d : ℕ) (after : List ℕ) (ts us : List (List ℕ)) → (goes_on after ≡ true → HasFirst ts) → with_byte d after (ts ++ us) ≡ with_byte d after ts ++ us
 with_byte-append d after ts us first = by_tests (is_separator d) (goes_on after) refl
@@ -61,11 +57,7 @@ tokens_past (d ∷ front) c after e =
 
 -- the tokens of a text that is cut after a separator
 pub tokens-append : (closed after : List ℕ) → IsClosed closed → tokens (closed ++ after) ≡ tokens closed ++ tokens after
-tokens-append closed after (inl e) = rw e refl
-tokens-append closed after (inr h) =
-    let front = h.0 in let c = h.1 in let e = h.2 in
-    ap (λ (bs : List ℕ). tokens (bs ++ after)) e ∙ ap tokens (append_assoc front (c ∷ []) after) ∙ tokens_past front c after h.3
-    ∙ ap (λ (bs : List ℕ). tokens bs ++ tokens after) (sym e)
+tokens-append closed after h = grind (arith, append_assoc, tokens_past)
 
 pub stops_at : (c : ℕ) (after : List ℕ) → is_separator c ≡ true → goes_on (c ∷ after) ≡ false
 stops_at c after p = ap (λ b. cond b false true) p
@@ -74,16 +66,13 @@ stops_at c after p = ap (λ b. cond b false true) p
 pub tokens_unbroken : (w : List ℕ) → HasNoSeparator w → tokens w ≡ as_token w
 tokens_unbroken [] t = refl
 tokens_unbroken (c ∷ []) t = ends_token c [] [] t.0 refl
-tokens_unbroken (c ∷ d ∷ w) t =
-    goes_on_token c (d ∷ w) (tokens (d ∷ w)) t.0 (goes_on_unbroken d w t.1.0) ∙ ap (onto_first c) (tokens_unbroken (d ∷ w) t.1)
+tokens_unbroken (c ∷ d ∷ w) t = grind (arith, goes_on_token, goes_on_unbroken, tokens_unbroken (d ∷ w) t.1)
 
 -- so are they with a separator after them
 pub tokens_ended : (w : List ℕ) (s : ℕ) → HasNoSeparator w → is_separator s ≡ true → tokens (w ++ s ∷ []) ≡ as_token w
 tokens_ended [] s t e = skipped s [] [] e
 tokens_ended (c ∷ []) s t e = ap (with_byte c (s ∷ [])) (skipped s [] [] e) ∙ ends_token c (s ∷ []) [] t.0 (stops_at s [] e)
-tokens_ended (c ∷ d ∷ w) s t e =
-    goes_on_token c (d ∷ (w ++ s ∷ [])) (tokens (d ∷ (w ++ s ∷ []))) t.0 (goes_on_unbroken d (w ++ s ∷ []) t.1.0)
-    ∙ ap (onto_first c) (tokens_ended (d ∷ w) s t.1 e)
+tokens_ended (c ∷ d ∷ w) s t e = grind (arith, goes_on_token, goes_on_unbroken, tokens_ended (d ∷ w) s t.1 e)
 
 -- a closed text goes on to the next separator
 pub closes : (closed w : List ℕ) (s : ℕ) → is_separator s ≡ true → IsClosed (closed ++ (w ++ s ∷ []))

@@ -1,6 +1,6 @@
 -- Lists in which nothing stands twice, and what one event more makes of the numbers.
-use Rattle.std.proofs.Common.{◌≡◌, inl, inr, ℕ, zero, suc, ◌||◌, Bool, true, false, List, [], ◌∷◌, ◌++◌, map, Some, None, refl, sym, ◌∙◌, ap, ap₂, slice_get}
-use Rattle.std.specs.Prelude.{◌==◌, ◌&&◌, if◌then◌else◌}
+use Rattle.std.proofs.Common.{◌≡◌, inl, inr, ℕ, zero, suc, ◌||◌, Bool, true, false, List, [], ◌∷◌, ◌++◌, map, Some, None, refl, sym, ◌∙◌, ap, ap₂, slice_get, arith}
+use Rattle.std.specs.Prelude.{◌==◌}
 use Rattle.std.specs.List.{list_any, fold, flat_map}
 use Rattle.std.proofs.Math.Bool.{or-false, or-true}
 use Rattle.std.proofs.lemmas.Bool.{eqb-true}
@@ -8,7 +8,6 @@ use Rattle.std.proofs.lemmas.Grind.{fold-append, flat_map-append}
 use Rattle.std.proofs.lemmas.List.Folds.{list_any-append}
 use Rattle.std.proofs.lemmas.List.{map-append, append-nil}
 use Rattle.sia_events.specs.declared.event.Event.{Event}
-use Rattle.sia_events.specs.declared.event.Event.TheVariants.{Write}
 use Rattle.sia_events.specs.Events.{actor}
 use Rattle.sia_events.specs.Known.{acts, writes}
 use Rattle.sia_events.specs.Drafts.{IsNew}
@@ -24,10 +23,7 @@ pub numbers_tell : Tells same_number
 numbers_tell x y is = eqb-true x y is
 
 pub pairs_tell : Tells same_pair
-pairs_tell p q is = by_key (p.0 == q.0) refl is where
-  by_key : (b : Bool) → (p.0 == q.0) ≡ b → (b && (p.1 == q.1)) ≡ true → p ≡ q
-  by_key true e is = ap₂ (λ k v. (k, v)) (eqb-true p.0 q.0 e) (eqb-true p.1 q.1 is)
-  by_key false e is = absurd cc
+pairs_tell p q is = grind (arith, eqb-true)
 
 module _ {A : Type 0} (same : A → A → Bool) (tells : Tells same) (p : A → Bool) where
   any_has : (xs : List A) (x : A) → list_any (same x) xs ≡ true → p x ≡ true → list_any p xs ≡ true
@@ -38,18 +34,11 @@ module _ {A : Type 0} (same : A → A → Bool) (tells : Tells same) (p : A → 
     by_head false e is rest = rw (rest is) (or-true (p y))
 
   any_entered : (xs : List A) (x : A) → list_any p (entered same xs x) ≡ (list_any p xs || p x)
-  any_entered xs x = by_there (list_any (same x) xs) refl (p x) refl where
-    by_there : (b : Bool) → list_any (same x) xs ≡ b → (c : Bool) → p x ≡ c → list_any p (if b then xs else xs ++ x ∷ []) ≡ (list_any p xs || c)
-    by_there true e true has = any_has xs x e has ∙ sym (or-true (list_any p xs))
-    by_there true e false has = sym (or-false (list_any p xs))
-    by_there false e c has = list_any-append p xs (x ∷ []) ∙ ap (λ d. list_any p xs || d) (or-false (p x) ∙ has)
+  any_entered xs x = grind (arith, any_has, or-true, or-false, list_any-append)
 
   any_fold : (xs ys : List A) → list_any p (fold (entered same) xs ys) ≡ (list_any p xs || list_any p ys)
   any_fold xs [] = sym (or-false (list_any p xs))
-  any_fold xs (y ∷ ys) = any_fold (entered same xs y) ys ∙ ap (λ b. b || list_any p ys) (any_entered xs y) ∙ or_assoc (list_any p xs) (p y) (list_any p ys) where
-    or_assoc : (a b c : Bool) → ((a || b) || c) ≡ (a || (b || c))
-    or_assoc true b c = refl
-    or_assoc false b c = refl
+  any_fold xs (y ∷ ys) = grind (arith, any_entered, any_fold (entered same xs y) ys)
 
   pub any_distinct : (ys : List A) → list_any p (distinct same ys) ≡ list_any p ys
   any_distinct ys = any_fold [] ys
@@ -64,8 +53,7 @@ unfolding txns_of
 numbered_acts t h = any_distinct same_number numbers_tell (same_number t) (map actor h) ∙ any_map t h
 
 any_writes_in : (q : ℕ × ℕ) (e : Event) → list_any (same_pair q) (writes_in e) ≡ writes q e
-any_writes_in q (Write t k) = or-false ((q.0 == k) && (q.1 == t))
-any_writes_in q _ = refl
+any_writes_in q e = grind (arith, or-false)
 
 any_writes : (q : ℕ × ℕ) (h : List Event) → list_any (same_pair q) (flat_map writes_in h) ≡ list_any (writes q) h
 any_writes q [] = refl
@@ -88,11 +76,7 @@ four p q r s = λ i. all_four (p i) (q i) (r i) (s i)
 
 pub names_push : (h : List Event) (e : Event) → names_of (h ++ e ∷ []) ≡ record { txns = entered same_number (txns_of h) (actor e); keys = fold (entered same_number) (keys_of h) (keys_in e); writes = fold (entered same_pair) (writes_of h) (writes_in e); ranges = ranges_of h ++ ranges_in e }
 unfolding txns_of keys_of writes_of ranges_of
-names_push h e = four
-    (ap (distinct same_number) (map-append actor h (e ∷ [])) ∙ fold-append (entered same_number) [] (map actor h) (actor e ∷ []))
-    (ap (distinct same_number) (flat_push keys_in h e) ∙ fold-append (entered same_number) [] (flat_map keys_in h) (keys_in e))
-    (ap (distinct same_pair) (flat_push writes_in h e) ∙ fold-append (entered same_pair) [] (flat_map writes_in h) (writes_in e))
-    (flat_push ranges_in h e)
+names_push h e = grind (arith, four, map-append, fold-append, flat_push)
 
 -- names that stand once
 pub once_push : (xs : List ℕ) (x : ℕ) → AreOnce xs → IsNew xs x → AreOnce (xs ++ x ∷ [])

@@ -8,7 +8,7 @@ use Rattle.std.proofs.lemmas.Bool.Decides.{nat_tests}
 use Rattle.std.proofs.lemmas.Bool.{eqb-true, ltb-false, ltb-true}
 use Rattle.std.proofs.lemmas.Option.{slice_get_past, slice_get_read, slice_get_within}
 use Rattle.sia_events.specs.declared.finder.Finder.{Finder}
-use Rattle.sia_events.specs.Finding.{home, AreTaken, IsInSlots, IsInTree, IsOther, Reaches, Finds, FindsBelow}
+use Rattle.sia_events.specs.Finding.{home, AreTaken, IsOther, Reaches, Finds, FindsBelow}
 use Rattle.sia_events.proofs.LogRows.RowsRead.{set_here, get_more, get_less, set_cases, set_apart}
 
 moved : (old now slots : List ℕ) (here there e : ℕ) → slots ≡ now → there ≡ here → slice_get slots (there + e) ≡ Some 0 → slice_get now (here + e) ≡ Some 0
@@ -28,11 +28,7 @@ module _ (f g : Finder) (s n : ℕ) (p : IsFilled f g s n) where
   same_home name = rw (p.factor, p.mask) refl
 
   still_taken : (name d : ℕ) → AreTaken f.slots.items (home f name) d → AreTaken g.slots.items (home g name) d
-  still_taken name d taken = λ e less free.
-      elim (set_cases f.slots.items s (home f name + e) (n + 1) 0 (moved f.slots.items (set f.slots.items s (n + 1)) g.slots.items (home f name) (home g name) e p.slots (same_home name) free)) [
-        | inl was ↦ taken e less was
-        | inr wrong ↦ absurd (let z : 0 ≡ n + 1 = wrong.1 in omega arith)
-      ]
+  still_taken name d taken = grind (arith, set_cases, moved, same_home)
 
   pub filled_keeps : (names : List ℕ) (name : ℕ) → Reaches f names name → Reaches g names name
   unfolding Reaches
@@ -69,17 +65,12 @@ module _ (f g : Finder) (name n : ℕ) (p : IsGrown f g name n) where
 
   pub grown_keeps : (names : List ℕ) (x : ℕ) → slice_get names n ≡ Some name → Reaches f names x → Reaches g names x
   unfolding Reaches
-  grown_keeps names x named (inl (d, m, less, at, is, taken)) = inl (d, m, less, rw (same_home_grown x, p.slots) at, is, taken_grown x d taken)
-  grown_keeps names x named (inr (m, at, is, taken)) = by_name (x == name) refl where
-    by_name : (b : Bool) → (x == name) ≡ b → IsInSlots g names x ⊎ IsInTree g names x
-    by_name true same = let e : x ≡ name = eqb-true x name same in subst (λ (y : ℕ). IsInSlots g names y ⊎ IsInTree g names y) (sym e) (inr (n, p.here, named, taken_grown name 8 p.taken))
-    by_name false other = inr (m, p.others x (other_in_tree name x other) ∙ at, is, taken_grown x 8 taken)
+  grown_keeps names x named h = grind (arith, same_home_grown, taken_grown, eqb-true, other_in_tree)
 
 -- more names leave those before as they are
 reaches_more : (f : Finder) (names more : List ℕ) (x : ℕ) → Reaches f names x → Reaches f (names ++ more) x
 unfolding Reaches
-reaches_more f names more x (inl (d, m, less, at, is, taken)) = inl (d, m, less, at, get_more names more m x is, taken)
-reaches_more f names more x (inr (m, at, is, taken)) = inr (m, at, get_more names more m x is, taken)
+reaches_more f names more x h = grind (arith, get_more)
 
 pub below_last : (f : Finder) (names before : List ℕ) (last end : ℕ) → names ≡ before ++ last ∷ [] → end ≡ length before → Finds f before → FindsBelow f names end
 unfolding Finds FindsBelow
@@ -103,10 +94,7 @@ below_all f names end all finds = λ n x here. let less = slice_get_within names
 
 pub below_more : (f g : Finder) (names : List ℕ) (n x : ℕ) → slice_get names n ≡ Some x → ((y : ℕ) → Reaches f names y → Reaches g names y) → Reaches g names x → FindsBelow f names n → FindsBelow g names (n + 1)
 unfolding FindsBelow
-below_more f g names n x named keeps taken finds = λ m y less here. by_number m y less here (m == n) refl where
-  by_number : (m y : ℕ) → m < n + 1 → slice_get names m ≡ Some y → (b : Bool) → (m == n) ≡ b → Reaches g names y
-  by_number m y less here true same = let e : m ≡ n = eqb-true m n same in let again : slice_get names n ≡ Some y = rw (← e) here in let is : x ≡ y = cc in subst (λ (z : ℕ). Reaches g names z) is taken
-  by_number m y less here false other = let ne : m ≢ n = grind (arith, nat_tests) in keeps y (finds m y (omega arith) here)
+below_more f g names n x named keeps taken finds = grind (arith, eqb-true)
 
 -- all names are those below their number
 pub from_below : (f : Finder) (names : List ℕ) (name : ℕ) → (FindsBelow f names (length names) → (n : ℕ) → n < length names → slice_get names n ≢ Some name) → Finds f names → (n : ℕ) → slice_get names n ≢ Some name

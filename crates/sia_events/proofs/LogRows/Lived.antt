@@ -24,8 +24,7 @@ use Rattle.std.proofs.lemmas.List.Elements.{All-cons, All-nil}
 use Rattle.sia_events.proofs.LogRows.RowsRead.{get_more, push_cases}
 
 pub at_more : (h : List Event) (e f : Event) (p : ℕ) → at_place h p ≡ Some f → at_place (h ++ e ∷ []) p ≡ Some f
-at_more h e f zero at = absurd (let x : None ≡ Some f = at in cc)
-at_more h e f (suc i) at = get_more h (e ∷ []) i f at
+at_more h e f p at = grind (arith, get_more)
 
 pub at_push : (h : List Event) (e f : Event) (p : ℕ) → at_place (h ++ e ∷ []) p ≡ Some f → (at_place h p ≡ Some f) ⊎ ((p ≡ suc (length h)) × (f ≡ e))
 at_push h e f zero at = absurd (let x : None ≡ Some f = at in cc)
@@ -39,12 +38,10 @@ at_last [] e = refl
 at_last (g ∷ h) e = at_last h e
 
 pub place_in : (h : List Event) (p : ℕ) (f : Event) → at_place h p ≡ Some f → p ≤ length h
-place_in h zero f at = omega arith
-place_in h (suc i) f at = let r = slice_get_within h i f at in omega arith
+place_in h p f at = grind (arith, slice_get_within)
 
 among_at : (h : List Event) (f : Event) (p : ℕ) → at_place h p ≡ Some f → IsAmong h f
-among_at h f zero at = absurd (let x : None ≡ Some f = at in cc)
-among_at h f (suc i) at = (i, at)
+among_at h f p at = grind (arith)
 
 at_among : (h : List Event) (f : Event) → IsAmong h f → (p : ℕ) × (at_place h p ≡ Some f)
 at_among h f among = (suc among.0, among.1)
@@ -89,9 +86,7 @@ module _ (h : List Event) (e : Event) where
   open_more t going is = ((is.0.0, (is.0.1.0, at_more h e is.0.1.0 is.0.0 is.0.1.1, is.0.1.2)), (λ done. is.1 (done.0, not_by_last t done.0 going (Commit t) (inl refl) done.1)), (λ done. is.2 (done.0, not_by_last t done.0 going (Abort t) (inr refl) done.1)))
 
   ends_more : (t : ℕ) (end : TxnEnd) → ends t e ≡ false → Ends h t end → Ends (h ++ e ∷ []) t end
-  ends_more t Open going is = open_more t going is
-  ends_more t (Committed p) going is = at_more h e (Commit t) p is
-  ends_more t (Aborted p) going is = at_more h e (Abort t) p is
+  ends_more t end going is = grind (arith, open_more, at_more)
 
   pub lives_more : (x : TxnRow) → ends x.name e ≡ false → Lives h x → Lives (h ++ e ∷ []) x
   lives_more x going is = (start_more x.name x.start is.0, ends_more x.name x.end going is.1)

@@ -227,11 +227,5 @@ pair_grown t u p sound txns keys writes ranges events is few pair =
 -- one range more
 pub range_grown : (t u : Tables) (r : RangeRow) → AreSound t → u.txns.items ≡ t.txns.items → u.keys.items ≡ t.keys.items → u.writes.items ≡ t.writes.items → u.pairs.items ≡ t.pairs.items → u.events.items ≡ t.events.items → u.ranges.items ≡ t.ranges.items ++ r ∷ [] → length t.ranges.items < 536870912 → IsRangeRow t.pairs.items r → AreSound u × Grows t u
 range_grown t u r sound txns keys writes pairs events is few within =
-    let grows : Grows t u = record {
-      txns = front_same (txn_names t.txns.items) (txn_names u.txns.items) (ap txn_names txns);
-      keys = front_same t.keys.items u.keys.items keys;
-      writes = front_same t.writes.items u.writes.items writes;
-      ranges = (r ∷ [], is);
-      pairs = front_same t.pairs.items u.pairs.items pairs;
-    } in
+    let grows : Grows t u = grind (arith, front_same) in
     search (rules, grown_sound, few_writes, length-append, more_none, more_one)

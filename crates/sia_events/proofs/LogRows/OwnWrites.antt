@@ -1,5 +1,5 @@
 -- The writes of a transaction stand from its newest back, also where one more is taken in.
-use Rattle.std.proofs.Common.{◌≡◌, ◌≢◌, ◌⊎◌, inl, inr, ℕ, zero, suc, ◌+◌, ◌-◌, ◌<◌, ◌≤◌, Bool, true, false, List, [], ◌∷◌, ◌++◌, length, map, set, Some, None, refl, sym, subst, ◌∙◌, ap, ap₂, get_or, Option, arith, slice_get}
+use Rattle.std.proofs.Common.{◌≡◌, ◌≢◌, ◌⊎◌, inl, inr, ℕ, ◌+◌, ◌-◌, ◌<◌, ◌≤◌, Bool, true, false, List, [], ◌∷◌, ◌++◌, length, map, set, Some, None, refl, sym, subst, ◌∙◌, ap, ap₂, get_or, Option, arith, slice_get}
 use Rattle.std.specs.Prelude.{◌==◌, ◌*◌, IfNone}
 use Rattle.std.proofs.lemmas.List.{length-append, length-map, map-append}
 use Rattle.std.proofs.lemmas.Option.{slice_get_within, slice_get-get_or, get_or_from_slice_get, slice_get-map}
@@ -19,8 +19,7 @@ one_writer : (xs : List Writer) (i : ℕ) (x y : Writer) → slice_get xs i ≡ 
 one_writer xs i x y a b = let e : Some x ≡ Some y = sym a ∙ b in cc
 
 pub own_within : (rows : List WriteRow) (txn p : ℕ) → IsOwn rows txn p → p ≤ length rows
-own_within rows txn zero own = omega arith
-own_within rows txn (suc p) own = let r = own (omega arith) in let w = slice_get_within rows (suc p - 1) r.0 r.1 in omega arith
+own_within rows txn p own = grind (arith, slice_get_within)
 
 pub table_more : (o : OwnWrites) (rows : List WriteRow) (r : WriteRow) → Tracks o rows → FindsBelow o.table (map write_code (rows ++ r ∷ [])) o.in_table
 table_more o rows r t = rw (map-append write_code rows (r ∷ [])) (below_append o.table (map write_code rows) (write_code r ∷ []) o.in_table (let l = length-map rows write_code in omega (arith, t.lags)) t.table)
@@ -55,25 +54,12 @@ none_in_table o rows txn key code x None is_code t is many none = λ n w at is_t
 
 -- and those of one with few stand from its newest back
 pub all_below : (o : OwnWrites) (rows : List WriteRow) (txn key : ℕ) (x : Writer) → Tracks o rows → Some x ≡ slice_get o.writers.items txn → (n : ℕ) (w : WriteRow) → slice_get rows n ≡ Some w → w.txn ≡ txn → w.key ≡ key → n < x.newest
-all_below o rows txn key x t is n w at is_txn is_key =
-    let r = t.newest n w at in
-    let one : r.0 ≡ x = one_writer o.writers.items txn r.0 x (subst (λ s. slice_get o.writers.items s ≡ Some r.0) is_txn r.1) (sym is) in
-    let same = ap (λ (u : Writer). u.newest) one in
-    omega (arith, r.2)
+all_below o rows txn key x t is n w at is_txn is_key = grind (arith, one_writer)
 
 -- no other row of the transaction stands between a row and the one before it
 pub passed : (o : OwnWrites) (rows : List WriteRow) (txn key at p : ℕ) (d : WriteRow) → Tracks o rows → 0 < at → p ≡ get_or o.before.items (at - 1) p → (get_or rows (at - 1) d).key ≢ key → IsOwn rows txn at
     → ((n : ℕ) (w : WriteRow) → slice_get rows n ≡ Some w → w.txn ≡ txn → w.key ≡ key → n < at) → (p < at) × IsOwn rows txn p × ((n : ℕ) (w : WriteRow) → slice_get rows n ≡ Some w → w.txn ≡ txn → w.key ≡ key → n < p)
-passed o rows txn key at p d t above before ne own none =
-    let u = own above in
-    let within = slice_get_within rows (at - 1) u.0 u.1 in
-    let b = t.before (at - 1) p u.0 (slice_get-get_or o.before.items (at - 1) p (omega (arith, t.long)) ∙ ap Some (sym before)) u.1 in
-    (omega (arith, b.0), subst (λ s. IsOwn rows s p) u.2 b.1, λ n w there is_txn is_key. b.2 n w (apart u.0 u.1 n w (none n w there is_txn is_key) there is_key) there (is_txn ∙ sym u.2)) where
-      apart : (r : WriteRow) → slice_get rows (at - 1) ≡ Some r → (n : ℕ) (w : WriteRow) → n < at → slice_get rows n ≡ Some w → w.key ≡ key → n < at - 1
-      apart r row n w less there is_key = by_place (n == at - 1) refl where
-        by_place : (b : Bool) → (n == at - 1) ≡ b → n < at - 1
-        by_place true here = let e : n ≡ at - 1 = eqb-true n (at - 1) here in absurd (ne (let j : Some w ≡ Some r = sym there ∙ ap (slice_get rows) e ∙ row in let i : w ≡ r = cc in ap (λ (z : WriteRow). z.key) (get_or_from_slice_get rows (at - 1) r d row ∙ sym i) ∙ is_key))
-        by_place false other = let d : n ≢ at - 1 = grind (arith, nat_tests) in omega arith
+passed o rows txn key at p d t above before ne own none = grind (arith, slice_get_within, slice_get-get_or, eqb-true, get_or_from_slice_get)
 
 -- one more row
 module _ (o e : OwnWrites) (rows : List WriteRow) (txn key : ℕ) (x y : Writer) (t : Tracks o rows) (is : slice_get o.writers.items txn ≡ Some x) (writers : e.writers.items ≡ set o.writers.items txn y) (newest : y.newest ≡ length rows + 1) (before : e.before.items ≡ o.before.items ++ x.newest ∷ []) (more : o.in_table ≤ e.in_table) (many : (length rows + 1 ≤ e.in_table) ⊎ (y.count ≤ 12)) where

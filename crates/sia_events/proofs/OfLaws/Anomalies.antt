@@ -23,13 +23,7 @@ use Rattle.sia_events.proofs.OfLaws.Due.{has_due, one_due}
 
 -- two anomalies have two numbers
 one_anomaly : (a b : Anomaly) → anomaly_number a ≡ anomaly_number b → a ≡ b
-one_anomaly OwnWriteMissed OwnWriteMissed same = refl
-one_anomaly AbortedRead AbortedRead same = refl
-one_anomaly UncommittedRead UncommittedRead same = refl
-one_anomaly FutureRead FutureRead same = refl
-one_anomaly Phantom Phantom same = refl
-one_anomaly StaleRead StaleRead same = refl
-one_anomaly _ b same = absurd (omega arith)
+one_anomaly a b same = grind (arith)
 
 module _ (h : List Event) (p t k saw due : ℕ) where
   -- two names of a read are one
@@ -46,8 +40,7 @@ NoneBelow h p t k saw due n = (other : Anomaly) → anomaly_number other < n →
 module _ (h : List Event) (p t k saw due : ℕ) where
   -- none is before the first, and where one doesn't fit, none is before the next
   pub none_below_first : NoneBelow h p t k saw due 1
-  none_below_first OwnWriteMissed below fits = omega arith
-  none_below_first _ below fits = omega arith
+  none_below_first h below fits = grind (arith)
 
   pub none_below_next : (name : Anomaly) → NoneBelow h p t k saw due (anomaly_number name) → ¬ Fits h p t k saw due name → NoneBelow h p t k saw due (anomaly_number name + 1)
   none_below_next name none fails other below fits = elim (cases_eq (anomaly_number other) (anomaly_number name)) [
@@ -58,8 +51,7 @@ module _ (h : List Event) (p t k saw due : ℕ) where
   -- one that fits is the name, or the next is looked at
   or_next : (name : Anomaly) → NoneBelow h p t k saw due (anomaly_number name) → Decided (Fits h p t k saw due name)
       → (NoneBelow h p t k saw due (anomaly_number name + 1) → (found : Anomaly) × IsNamed h p t k saw due found) → (found : Anomaly) × IsNamed h p t k saw due found
-  or_next name none (inl fits) next = (name, (fits, none))
-  or_next name none (inr fails) next = next (none_below_next name none fails)
+  or_next name none h next = grind (arith)
 
 -- whether an event leaves out a key
 leaves_out_or_not : (e : Event) (k : ℕ) → Decided (LeavesOut e k)

@@ -12,12 +12,7 @@ use Rattle.sia_events.proofs.Writing.WellFormed.{one_commit}
 
 -- of the visible writers of a key one committed last
 pub one_newest : (h : List Event) (t k v w : ℕ) → IsNewestVisible h t k v → IsNewestVisible h t k w → v ≡ w
-one_newest h t k v w a b =
-    let c : ℕ = a.0.1.1 in
-    let d : ℕ = b.0.1.1 in
-    let up : c ≤ d = b.1 v c d a.0 a.0.1.3 b.0.1.3 in
-    let down : d ≤ c = a.1 w d c b.0 b.0.1.3 a.0.1.3 in
-    one_committer h v w d (subst (CommitsAt h v) (let same : c ≡ d = omega arith in same) a.0.1.3) b.0.1.3
+one_newest h t k v w a b = grind (arith, one_committer)
 
 -- one version at most is due
 pub one_due : (h : List Event) (t p k v w : ℕ) → IsDue h t p k v → IsDue h t p k w → v ≡ w

@@ -1,5 +1,5 @@
 -- A transaction of a well-formed history ends once, and nothing of it follows its end.
-use Rattle.std.proofs.Common.{◌≡◌, ◌≢◌, ◌⊎◌, inl, inr, ℕ, ◌≤◌, List, Option, Some, None, refl, sym, subst, ◌∙◌, arith, rules}
+use Rattle.std.proofs.Common.{◌≡◌, ◌≢◌, ◌⊎◌, inl, inr, ℕ, ◌≤◌, List, Option, Some, None, refl, sym, subst, ◌∙◌, arith}
 use Rattle.sia_events.specs.declared.event.Event.{Event}
 use Rattle.sia_events.specs.declared.event.Event.TheVariants.{Commit, Abort}
 use Rattle.sia_events.specs.declared.fault.Reason.TheVariants.{AlreadyEnded}
@@ -20,17 +20,11 @@ none_after_abort h wf t p c a b = at_most p c (λ less. event_has_none h wf p a.
 
 -- a transaction aborts once
 pub one_abort : (h : List Event) → IsWellFormed h → (t p q : ℕ) → AbortsAt h t p → AbortsAt h t q → p ≡ q
-one_abort h wf t p q a b =
-    let below : p ≤ q = none_after_abort h wf t p q (Abort t, a, refl) b in
-    let above : q ≤ p = none_after_abort h wf t q p (Abort t, b, refl) a in
-    omega arith
+one_abort h wf t p q a b = grind (arith, none_after_abort h wf t p q (Abort t, a, refl) b, none_after_abort h wf t q p (Abort t, b, refl) a)
 
 -- what commits doesn't abort
 pub one_end : (h : List Event) → IsWellFormed h → (t p q : ℕ) → CommitsAt h t p → ¬ AbortsAt h t q
-one_end h wf t p q a b =
-    let below : p ≤ q = none_after_abort h wf t p q (Commit t, a, refl) b in
-    let above : q ≤ p = none_after_commit h wf t q p (Abort t, b, refl) a in
-    search (rules, one_event)
+one_end h wf t p q a b = grind (arith, none_after_abort h wf t p q (Commit t, a, refl) b, none_after_commit h wf t q p (Abort t, b, refl) a, one_event)
 
 -- a place commits one transaction
 pub one_committer : (h : List Event) (t u p : ℕ) → CommitsAt h t p → CommitsAt h u p → t ≡ u

@@ -1,5 +1,5 @@
 -- What a committed transaction looked at can be told, so of the versions that it looked at one is the oldest and one the newest.
-use Rattle.std.proofs.Common.{◌≡◌, ◌≢◌, ◌⊎◌, inl, inr, ℕ, zero, suc, ◌+◌, ◌<◌, ◌≤◌, List, length, refl, sym, subst, ◌∙◌, arith}
+use Rattle.std.proofs.Common.{◌≡◌, ◌≢◌, ◌⊎◌, inl, inr, ℕ, zero, suc, ◌+◌, ◌<◌, ◌≤◌, List, length, refl, subst, ◌∙◌, arith}
 use Rattle.std.proofs.lemmas.Bool.{cases_eq}
 use Rattle.sia_events.specs.declared.event.Event.{Event}
 use Rattle.sia_events.specs.declared.event.Event.TheVariants.{Commit}
@@ -20,10 +20,7 @@ module _ (h : List Event) where
 
   -- one version is that as of a place
   one_as_of : (v w c : ℕ) → IsAsOf h v c → IsAsOf h w c → v ≡ w
-  one_as_of v w c (inl a) (inl b) = a.0 ∙ sym b.0
-  one_as_of v w c (inl a) (inr b) = let above : 0 < c = commits_above w c b in absurd (let none : c ≡ 0 = a.1 in omega arith)
-  one_as_of v w c (inr a) (inl b) = let above : 0 < c = commits_above v c a in absurd (let none : c ≡ 0 = b.1 in omega arith)
-  one_as_of v w c (inr a) (inr b) = one_committer h v w c a b
+  one_as_of v w c h p = grind (arith, commits_above, one_committer)
 
   -- the version as of a place, or none
   as_of_or_none : (c : ℕ) → ((v : ℕ) × IsAsOf h v c) ⊎ ((v : ℕ) → ¬ IsAsOf h v c)
@@ -79,6 +76,4 @@ module _ (h : List Event) where
 
     -- and that version was seen
     pub looked_saw : (c v : ℕ) → Looked h t k c → CommitsAt h v c → (p : ℕ) × SawAt h p t k v × (v ≢ t)
-    looked_saw c v look at =
-        let same : look.2 ≡ v = one_as_of look.2 v c look.5 (inr at) in
-        (look.1, subst (λ w. SawAt h look.1 t k w) same look.3, subst (λ w. w ≢ t) same look.4)
+    looked_saw c v look at = grind (arith, one_as_of)

@@ -1,6 +1,6 @@
 -- Named starts only add: what the grammar without them accepts or refuses is accepted or refused alike, unless the faulty
 -- token has the form of a named start.
-use Rattle.std.proofs.Common.{◌≡◌, ◌≢◌, ◌⊎◌, inl, inr, ℕ, ◌+◌, ◌<◌, ◌≤◌, List, Option, Some, None, refl, ap, sym, subst, ◌∙◌, arith}
+use Rattle.std.proofs.Common.{◌≡◌, ◌≢◌, ◌⊎◌, inl, inr, ℕ, ◌+◌, ◌<◌, ◌≤◌, List, Some, refl, ap, sym, subst, ◌∙◌, arith}
 use Rattle.std.specs.Prelude.{◌↔◌, MatchOption, length}
 use Rattle.std.proofs.lemmas.Option.{MatchOption-at_none}
 use Rattle.sia_events.specs.Limits.{Limits}
@@ -10,24 +10,18 @@ use Rattle.sia_events.specs.declared.fault.Reason.TheVariants.{TooManyEvents, Ba
 use Rattle.sia_events.specs.declared.fault.TextFault.{TextFault}
 use Rattle.sia_events.specs.declared.fault.TextFault.TheVariants.{NoMemory, TextTooLong, Refused}
 use Rattle.sia_events.specs.Places.{at_place}
-use Rattle.sia_events.specs.Events.{named_start}
 use Rattle.sia_events.specs.Text.{spell, tokens, StandsFor}
 use Rattle.sia_events.specs.Refusals.{TokenHas, HasReasonIn, reason_number, IsFirstFaultIn, IsRefusalIn, IsRefusal, IsAcceptedIn, IsAccepted, AnyForm}
 use Rattle.sia_events.specs.Transactions.{IsFirstEvent, StartsAt}
 use Rattle.sia_events.specs.Laws.{IsPlain, NamesStart, StartsPlainly, NamedStartsOnlyAdd}
 use Rattle.sia_events.proofs.Shared.Decisions.{Decided, at_most}
-use Rattle.sia_events.proofs.Shared.Spelling.{spell_injective}
-use Rattle.sia_events.proofs.OfLaws.Unspelling.{spelling_or_not}
+use Rattle.sia_events.proofs.OfLaws.Unspelling.{spell_injective, spelling_or_not}
 use Rattle.sia_events.proofs.Writing.WellFormed.{accepted_short, accepted_none_in, place_spelled}
 use Rattle.sia_events.proofs.Shared.FirstFaults.{above_two}
 
 -- whether an event names a start can be told
 plain_or_not : (e : Event) → Decided (IsPlain e)
-plain_or_not e = of_name (named_start e) refl
-  where
-    of_name : (o : Option ℕ) → named_start e ≡ o → Decided (IsPlain e)
-    of_name None is = inl is
-    of_name (Some n) is = inr (λ plain. let other : Some n ≡ None = sym is ∙ plain in cc)
+plain_or_not e = grind (arith)
 
 module _ (limits : Limits) (ts : List (List ℕ)) (i : ℕ) (w : List ℕ) where
   -- what spells a plain event has in the grammar without named starts each reason that it has in the whole one
@@ -44,9 +38,7 @@ module _ (limits : Limits) (ts : List (List ℕ)) (i : ℕ) (w : List ℕ) where
 
   -- but for a spelling of no event, a reason without named starts is one in the whole grammar
   any_has : (r : Reason) → reason_number r ≢ 3 → TokenHas limits IsPlain ts i w r → TokenHas limits AnyForm ts i w r
-  any_has TooManyEvents other h = h
-  any_has BadEvent other h = absurd (other refl)
-  any_has _ other h = (h.0, tt, h.2, h.3)
+  any_has r other h = grind (arith)
 
 -- where a token spells a plain event, its reasons are those without named starts
 plain_or : (limits : Limits) (ts : List (List ℕ)) (i : ℕ) (r : Reason) → ¬ HasReasonIn limits IsPlain ts i BadEvent → HasReasonIn limits AnyForm ts i r → ¬ ¬ HasReasonIn limits IsPlain ts i r
@@ -70,8 +62,7 @@ module _ (limits : Limits) (ts : List (List ℕ)) (i : ℕ) (r : Reason) (fault 
 
 -- the reasons from BadEvent on have numbers from 3
 from_three : (limits : Limits) (ts : List (List ℕ)) (i : ℕ) → ¬ HasReasonIn limits AnyForm ts i TooManyEvents → (s : Reason) → HasReasonIn limits AnyForm ts i s → 3 ≤ reason_number s
-from_three limits ts i few TooManyEvents h = absurd (few h)
-from_three limits ts i few _ h = omega arith
+from_three limits ts i few s h = grind (arith)
 
 -- the first fault is the same, unless its token has the form of a named start
 fault_alike : (limits : Limits) (text : List ℕ) (i : ℕ) (r : Reason) → IsFirstFaultIn limits IsPlain (tokens text) i r → IsFirstFaultIn limits AnyForm (tokens text) i r ⊎ ((Refused i r ≡ Refused i BadEvent) × NamesStart text i)

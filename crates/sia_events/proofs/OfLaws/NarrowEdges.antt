@@ -23,9 +23,7 @@ module _ (h : List Event) (wf : IsWellFormed h) (k : ℕ) where
   one_version t u c d same a b = one_committer h t u d (subst (CommitsAt h t) same a.1) b.1
 
   wr_edge : (t u : ℕ) → NarrowWrEdge h t u k → WrEdge h t u k
-  wr_edge t u n =
-      let saw = looked_saw h u k n.0 t n.2 n.1.1 in
-      (saw.2, (n.1.0, (n.0, n.1.1)), n.2.0, saw.0, t, saw.1, (n.0, n.1.1), saw.2, inl refl)
+  wr_edge t u n = grind (arith, looked_saw)
 
   rw_edge : (t u : ℕ) → NarrowRwEdge h t u k → RwEdge h t u k
   rw_edge t u n = (n.0, look.0, (next.1.0, (next.0, next.1.1)), look.1, look.2, look.3, is.0, look.4, is.1)
@@ -46,9 +44,7 @@ module _ (h : List Event) (wf : IsWellFormed h) (k : ℕ) where
       ]
 
   narrow_edge : (t u : ℕ) → NarrowWwEdge h t u k ⊎ NarrowWrEdge h t u k ⊎ NarrowRwEdge h t u k → WwEdge h t u k ⊎ WrEdge h t u k ⊎ RwEdge h t u k
-  narrow_edge t u (inl n) = inl (n.1.0, n.2.1.0, (n.0, n.2.0, n.1.1, n.2.1.1, n.2.2))
-  narrow_edge t u (inr (inl n)) = inr (inl (wr_edge t u n))
-  narrow_edge t u (inr (inr n)) = inr (inr (rw_edge t u n))
+  narrow_edge t u h = grind (arith, wr_edge, rw_edge)
 
   -- where a version is committed after a place, one is the next
   next_version : (c u e : ℕ) → CommitsVersion h k u e → c < e → (x : ℕ) × (next : IsNextVersion h k c x) × (next.0 ≤ e)
@@ -108,12 +104,7 @@ module _ (h : List Event) (wf : IsWellFormed h) (k : ℕ) where
       of_next next = elim (cases_eq next.0 t) [
         | inr differ ↦
             lead_on e t next.0 u next.1.0 e (k, inr (inr ((λ same. differ (sym same)), oldest.0, oldest.1, oldest.2, next.1))) next.1.1 version next.2 (omega arith)
-        | inl own ↦
-            let made : CommitsVersion h k t next.1.0 = subst (λ x. CommitsVersion h k x next.1.0) own next.1.1 in
-            elim (cases_lt next.1.0 e) [
-              | inl before ↦ versions_lead t u next.1.0 e made version before
-              | inr least ↦ absurd (other (one_version t u next.1.0 e (let most : next.1.0 ≤ e = next.2 in omega arith) made version))
-            ]
+        | inl own ↦ grind (arith, versions_lead, one_version)
       ]
 
   wr_leads : (t u : ℕ) → WrEdge h t u k → LeadsInSteps (HasNarrowEdge h) t u

@@ -1,5 +1,5 @@
 -- What can be told of a read, of any list of events: whether it saw a version of a key; and it saw one of each key that it covers.
-use Rattle.std.proofs.Common.{◌≡◌, ◌⊎◌, inl, inr, ℕ, zero, suc, ◌<◌, ◌≤◌, List, [], ◌∷◌, length, Option, Some, None, refl, ap, sym, subst, ◌∙◌, arith}
+use Rattle.std.proofs.Common.{◌≡◌, ◌⊎◌, inl, inr, ℕ, suc, ◌<◌, ◌≤◌, List, [], ◌∷◌, length, Option, Some, None, refl, ap, sym, subst, ◌∙◌, arith}
 use Rattle.std.specs.Prelude.{Contains}
 use Rattle.std.proofs.lemmas.Bool.{cases_lt, cases_eq}
 use Rattle.sia_events.specs.declared.event.Event.{Event}
@@ -12,8 +12,7 @@ use Rattle.sia_events.proofs.Shared.Starts.{one_event}
 
 -- the first of a list, or one of the rest
 pub contains_cases : {A : Type 0} (x z : A) (xs : List A) → Contains (x ∷ xs) z → (x ≡ z) ⊎ Contains xs z
-contains_cases x z xs (zero, below, e) = inl e
-contains_cases x z xs (suc k, below, e) = inr (k, omega arith, e)
+contains_cases x z xs h = grind (arith)
 
 pub contains_later : {A : Type 0} (x z : A) (xs : List A) → Contains xs z → Contains (x ∷ xs) z
 contains_later x z xs c = (suc c.0, (let below : c.0 < length xs = c.1 in omega arith), c.2)

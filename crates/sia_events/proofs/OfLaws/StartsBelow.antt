@@ -1,5 +1,5 @@
 -- In a well-formed history a transaction starts before each of its events, so before its commit or abort.
-use Rattle.std.proofs.Common.{◌≡◌, ℕ, ◌+◌, ◌-◌, ◌<◌, ◌≤◌, List, Option, Some, None, refl, arith, rules}
+use Rattle.std.proofs.Common.{◌≡◌, ℕ, ◌+◌, ◌-◌, ◌<◌, ◌≤◌, List, Option, Some, None, refl, arith}
 use Rattle.std.specs.Prelude.{MatchOption}
 use Rattle.sia_events.specs.declared.event.Event.{Event}
 use Rattle.sia_events.specs.declared.event.Event.TheVariants.{Commit}
@@ -14,9 +14,7 @@ use Rattle.sia_events.proofs.Writing.WellFormed.{event_has_none}
 
 -- a named start is at most the number of events before the event that names it
 pub named_start_below : (h : List Event) → IsWellFormed h → (p n : ℕ) (e : Event) → at_place h p ≡ Some e → named_start e ≡ Some n → n < p
-named_start_below h wf p n e at name =
-    let most : n ≤ p - 1 = at_most n (p - 1) (λ less. event_has_none h wf p e at BadStart (n, name, less)) in
-    search (rules, place_within)
+named_start_below h wf p n e at name = grind (arith, at_most n (p - 1) (λ less. event_has_none h wf p e at BadStart (n, name, less)), place_within)
 
 -- a transaction starts before each of its events
 pub start_below : (h : List Event) → IsWellFormed h → (t s p : ℕ) → StartsAt h t s → ActsAt h t p → s < p

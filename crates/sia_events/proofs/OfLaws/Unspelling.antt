@@ -1,12 +1,12 @@
 -- A spelling read back: whether bytes spell an event can be told.
-use Rattle.std.proofs.Common.{◌≡◌, ◌≢◌, ◌⊎◌, inl, inr, ℕ, ◌+◌, ◌-◌, ◌*◌, Bool, true, false, cond, List, [], ◌∷◌, ◌++◌, Some, None, refl, ap, sym, ◌∙◌}
+use Rattle.std.proofs.Common.{◌≡◌, ◌≢◌, ◌⊎◌, inl, inr, ℕ, ◌+◌, ◌-◌, ◌*◌, Bool, true, false, cond, List, [], ◌∷◌, ◌++◌, Some, None, refl, ap, sym, ◌∙◌, arith}
 use Rattle.std.specs.Prelude.{fold, ◌==◌}
 use Rattle.std.proofs.lemmas.Bool.{cases_eq}
 use Rattle.sia_events.specs.declared.event.Event.{Event}
 use Rattle.sia_events.specs.declared.event.Event.TheVariants.{Begin, Read, Range, Write, Commit, Abort}
 use Rattle.sia_events.specs.Text.{numeral, spell}
 use Rattle.sia_events.specs.Parsing.{is_digit}
-use Rattle.sia_events.proofs.Shared.Decisions.{same_list}
+use Rattle.sia_events.proofs.Shared.Decisions.{Decided, decided_alike, same_list}
 use Rattle.sia_events.proofs.Shared.Numerals.{AreDigits, numeral-digits, value_of-numeral}
 use Rattle.sia_events.proofs.Shared.Spelling.{pairs_text, list_text, event_text, regrouped}
 use Rattle.sia_events.proofs.Shared.NumberLaws.{digit_passes}
@@ -70,10 +70,7 @@ unspell (c ∷ cs) = cond (c == 98) (begin_of (numbers_from 0 cs))
 
 pairs_read : (p : ℕ × ℕ) (ps : List (ℕ × ℕ)) → in_twos (numbers_from 0 (pairs_text p ps (93 ∷ []))) ≡ p ∷ ps
 pairs_read p [] = ap in_twos (numeral_read p.0 (58 ∷ (numeral p.1 ++ (93 ∷ []))) ∙ ap (λ (ns : List ℕ). p.0 ∷ ns) (numeral_read p.1 (93 ∷ [])))
-pairs_read p (q ∷ ps) =
-    ap in_twos (numeral_read p.0 (58 ∷ (numeral p.1 ++ (44 ∷ pairs_text q ps (93 ∷ []))))
-    ∙ ap (λ (ns : List ℕ). p.0 ∷ ns) (numeral_read p.1 (44 ∷ pairs_text q ps (93 ∷ []))))
-    ∙ ap (λ (rs : List (ℕ × ℕ)). p ∷ rs) (pairs_read q ps)
+pairs_read p (q ∷ ps) = grind (arith, numeral_read, pairs_text, pairs_read q ps)
 
 -- what comes after the first number of listed keys
 pairs_start : (p : ℕ × ℕ) (ps : List (ℕ × ℕ)) → (ns : List ℕ) × (numbers_from 0 (pairs_text p ps (93 ∷ [])) ≡ p.0 ∷ ns)
@@ -81,16 +78,11 @@ pairs_start p [] = (_, numeral_read p.0 (58 ∷ (numeral p.1 ++ (93 ∷ []))))
 pairs_start p (q ∷ ps) = (_, numeral_read p.0 (58 ∷ (numeral p.1 ++ (44 ∷ pairs_text q ps (93 ∷ [])))))
 
 range_read : (t lo hi n : ℕ) (ns rest : List ℕ) → rest ≡ n ∷ ns → read_of (t ∷ lo ∷ 0 ∷ hi ∷ rest) ≡ Range t lo hi (in_twos rest)
-range_read t lo hi n ns rest e =
-    ap (λ (xs : List ℕ). read_of (t ∷ lo ∷ 0 ∷ hi ∷ xs)) e
-    ∙ sym (ap (λ (xs : List ℕ). Range t lo hi (in_twos xs)) e)
+range_read t lo hi n ns rest e = grind (arith)
 
 -- the numbers of a range read
 range_numbers : (t lo hi : ℕ) (after : List ℕ) → numbers_from 0 (numeral t ++ (91 ∷ (numeral lo ++ (46 ∷ 46 ∷ (numeral hi ++ after))))) ≡ t ∷ lo ∷ 0 ∷ numbers_from hi after
-range_numbers t lo hi after =
-    numeral_read t (91 ∷ (numeral lo ++ (46 ∷ 46 ∷ (numeral hi ++ after))))
-    ∙ ap (λ (ns : List ℕ). t ∷ ns) (numeral_read lo (46 ∷ 46 ∷ (numeral hi ++ after)))
-    ∙ ap (λ (ns : List ℕ). t ∷ lo ∷ 0 ∷ ns) (numeral_read hi after)
+range_numbers t lo hi after = grind (arith, numeral_read)
 
 list_read : (t lo hi : ℕ) (listed : List (ℕ × ℕ)) → read_of (t ∷ lo ∷ 0 ∷ numbers_from hi (list_text listed)) ≡ Range t lo hi listed
 list_read t lo hi [] = refl
@@ -100,21 +92,17 @@ list_read t lo hi (p ∷ ps) =
     ∙ ap (λ (rs : List (ℕ × ℕ)). Range t lo hi rs) (pairs_read p ps)
 
 text_read : (e : Event) → unspell (event_text e) ≡ e
-text_read (Begin t None) = ap begin_of (numeral_read t [])
-text_read (Begin t (Some n)) = ap begin_of (numeral_read t (64 ∷ (numeral n ++ [])) ∙ ap (λ (ns : List ℕ). t ∷ ns) (numeral_read n []))
-text_read (Read t k v) =
-    ap read_of (
-    numeral_read t (91 ∷ (numeral k ++ (58 ∷ (numeral v ++ (93 ∷ [])))))
-    ∙ ap (λ (ns : List ℕ). t ∷ ns) (numeral_read k (58 ∷ (numeral v ++ (93 ∷ []))))
-    ∙ ap (λ (ns : List ℕ). t ∷ k ∷ ns) (numeral_read v (93 ∷ []))
-    )
-text_read (Range t lo hi listed) = ap read_of (range_numbers t lo hi (list_text listed)) ∙ list_read t lo hi listed
-text_read (Write t k) = ap write_of (numeral_read t (91 ∷ (numeral k ++ (93 ∷ []))) ∙ ap (λ (ns : List ℕ). t ∷ ns) (numeral_read k (93 ∷ [])))
-text_read (Commit t) = ap (λ (ns : List ℕ). Commit (first_of ns)) (numeral_read t [])
-text_read (Abort t) = ap (λ (ns : List ℕ). Abort (first_of ns)) (numeral_read t [])
+text_read e = grind (arith, numeral_read, range_numbers, list_text, list_read)
 
 pub unspell_spell : (e : Event) → unspell (spell e) ≡ e
 unspell_spell e = ap unspell (regrouped e) ∙ text_read e
+
+-- no two events have one spelling, so whether two are one can be told
+pub spell_injective : (e f : Event) → spell e ≡ spell f → e ≡ f
+spell_injective e f p = sym (unspell_spell e) ∙ ap unspell p ∙ unspell_spell f
+
+pub same_event : (e f : Event) → Decided (e ≡ f)
+same_event e f = decided_alike (spell e ≡ spell f) (e ≡ f) (spell_injective e f) (ap spell) (same_list cases_eq (spell e) (spell f))
 
 -- whether bytes spell an event can be told
 pub spelling_or_not : (w : List ℕ) → ((e : Event) × (w ≡ spell e)) ⊎ ((e : Event) → w ≢ spell e)

@@ -1,6 +1,6 @@
 -- In a well-formed history the versions of a key are in one order, 0 first, and each edge leads from one committed
 -- transaction to another.
-use Rattle.std.proofs.Common.{◌≡◌, ◌≢◌, ◌⊎◌, inl, inr, ℕ, ◌<◌, List, refl, subst, arith}
+use Rattle.std.proofs.Common.{◌≢◌, ◌⊎◌, inl, inr, ℕ, ◌<◌, List, refl, subst, arith}
 use Rattle.std.proofs.lemmas.Bool.{cases_order}
 use Rattle.sia_events.specs.declared.event.Event.{Event}
 use Rattle.sia_events.specs.declared.event.Event.TheVariants.{Write}
@@ -14,17 +14,10 @@ use Rattle.sia_events.proofs.Writing.WellFormed.{one_commit}
 module _ (h : List Event) (wf : IsWellFormed h) where
   -- nothing commits before itself
   pub commits_not_before_itself : (t : ℕ) → ¬ CommitsBefore h t t
-  commits_not_before_itself t b =
-      let same : b.0 ≡ b.1 = one_commit h wf t b.0 b.1 b.2 b.3 in
-      let less : b.0 < b.1 = b.4 in
-      omega arith
+  commits_not_before_itself t b = grind (arith, one_commit)
 
   pub commits_before_both : (t u v : ℕ) → CommitsBefore h t u → CommitsBefore h u v → CommitsBefore h t v
-  commits_before_both t u v a b =
-      let same : a.1 ≡ b.0 = one_commit h wf u a.1 b.0 a.3 b.2 in
-      let first : a.0 < a.1 = a.4 in
-      let second : b.0 < b.1 = b.4 in
-      (a.0, b.1, a.2, b.3, omega arith)
+  commits_before_both t u v a b = grind (arith, one_commit)
 
   -- of two transactions that committed one did first
   pub one_commits_first : (t u : ℕ) → t ≢ u → IsCommitted h t → IsCommitted h u → CommitsBefore h t u ⊎ CommitsBefore h u t

@@ -104,15 +104,10 @@ module _ (limits : Limits) (text : List ℕ) (count : ℕ) (events all : List Ev
   short_text = let c = stands.counted in omega arith
 
   all_tokens : tokens text ≡ map spell events ++ as_token unfinished
-  all_tokens =
-      let j = stands.judged short_text in
-      tokens_cut text j.0 j.1 j.2 ∙ ap (λ (ts : List (List ℕ)). ts ++ as_token j.1) j.3.1 ∙ ap (λ (u : List ℕ). map spell events ++ as_token u) (sym (j.4 refl))
+  all_tokens = grind (arith, short_text, tokens_cut)
 
   pub ends_accepted : JudgedAll limits events (as_token unfinished) all → IsAccepted limits text × StandsFor text all
-  ends_accepted fine =
-      let read = judged_clean limits events (as_token unfinished) all clean fine in
-      let spelled : StandsFor text all = all_tokens ∙ read.spelled in
-      (clean_accepted limits text all short_text spelled read.clean, spelled)
+  ends_accepted fine = grind (arith, judged_clean, all_tokens, clean_accepted, short_text)
 
   pub ends_refused : (r : Reason) → StopsAt limits events (as_token unfinished) all r → IsRefusal limits text (Refused (suc (length all)) r)
   ends_refused r stops = (short_text, subst (λ ts. IsFirstFault limits ts (suc (length all)) r) (sym all_tokens) (stops_first limits events (as_token unfinished) all r clean stops))

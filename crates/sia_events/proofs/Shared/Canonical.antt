@@ -5,7 +5,8 @@ use Rattle.std.proofs.lemmas.Bool.Decides.{nat_tests}
 use Rattle.sia_events.specs.declared.event.Event.{Event}
 use Rattle.sia_events.specs.Text.{numeral, spell, is_separator, goes_on, onto_first, with_byte, tokens, canonical}
 use Rattle.sia_events.proofs.Shared.Numerals.{IsDigit, AreDigits, numeral-digits}
-use Rattle.sia_events.proofs.Shared.Spelling.{pairs_text, list_text, start_text, event_text, regrouped, spell_injective}
+use Rattle.sia_events.proofs.Shared.Spelling.{pairs_text, list_text, start_text, event_text, regrouped}
+use Rattle.sia_events.proofs.OfLaws.Unspelling.{spell_injective}
 
 -- no byte is a separator
 abbrev pub HasNoSeparator : List ℕ → Type 0
@@ -64,16 +65,12 @@ goes_on_unbroken d ds p = ap (λ b. cond b false true) p
 first_token : (w rest : List ℕ) → IsToken w → tokens (w ++ (32 ∷ rest)) ≡ w ∷ tokens rest
 first_token [] rest t = absurd t
 first_token (c ∷ []) rest t = ends_token c (32 ∷ rest) (tokens rest) t.0 refl
-first_token (c ∷ d ∷ w) rest t =
-    goes_on_token c (d ∷ (w ++ (32 ∷ rest))) (tokens (d ∷ (w ++ (32 ∷ rest)))) t.0 (goes_on_unbroken d (w ++ (32 ∷ rest)) t.1.0)
-    ∙ ap (onto_first c) (first_token (d ∷ w) rest t.1)
+first_token (c ∷ d ∷ w) rest t = grind (arith, goes_on_token, goes_on_unbroken, first_token (d ∷ w) rest t.1)
 
 only_token : (w : List ℕ) → IsToken w → tokens w ≡ w ∷ []
 only_token [] t = absurd t
 only_token (c ∷ []) t = ends_token c [] [] t.0 refl
-only_token (c ∷ d ∷ w) t =
-    goes_on_token c (d ∷ w) (tokens (d ∷ w)) t.0 (goes_on_unbroken d w t.1.0)
-    ∙ ap (onto_first c) (only_token (d ∷ w) t.1)
+only_token (c ∷ d ∷ w) t = grind (arith, goes_on_token, goes_on_unbroken, only_token (d ∷ w) t.1)
 
 tokens_joined : (ws : List (List ℕ)) → AllByRecursion IsToken ws → tokens (join_with_byte 32 ws) ≡ ws
 tokens_joined [] a = refl

@@ -8,7 +8,7 @@ use Rattle.sia_events.specs.declared.event.Event.{Event}
 use Rattle.sia_events.specs.declared.fault.Reason.{Reason}
 use Rattle.sia_events.specs.declared.fault.Reason.TheVariants.{TooManyEvents, BadEvent, BadNumber}
 use Rattle.sia_events.specs.Places.{at_place}
-use Rattle.sia_events.specs.Text.{spell, tokens, canonical, StandsFor}
+use Rattle.sia_events.specs.Text.{spell, tokens, StandsFor}
 use Rattle.sia_events.specs.Refusals.{IsAccepted, IsWellFormed}
 use Rattle.sia_events.specs.Parsing.{◌>>=◌, event_at}
 use Rattle.sia_events.specs.Known.{fault_of}
@@ -60,11 +60,7 @@ pub record IsClean (limits : Limits) (es : List Event) : Type 0 where
   pub each : (i : ℕ) (e : Event) → at_place es i ≡ Some e → IsFit (i - 1) (IsBefore es i) e
 
 pub clean_none : (limits : Limits) → IsClean limits []
-clean_none limits = record { few = omega arith; each = each }
-  where
-    each : (i : ℕ) (e : Event) → at_place [] i ≡ Some e → IsFit (i - 1) (IsBefore [] i) e
-    each zero e is = absurd cc
-    each (suc i) e is = absurd cc
+clean_none limits = grind (arith)
 
 clean_push : (limits : Limits) (es : List Event) (e : Event) → IsClean limits es → length es ≢ limits.events → IsFit (length es) (IsAmong es) e → IsClean limits (es ++ e ∷ [])
 clean_push limits es e clean few fit = record {
@@ -146,12 +142,7 @@ pub clean_accepted : (limits : Limits) (text : List ℕ) (h : List Event) → le
 clean_accepted limits text h short stands clean = accepted_from limits text h stands clean.few short clean.each
 
 pub clean_well_formed : (limits : Limits) (text : List ℕ) (h : List Event) → AreWithin limits greatest → length text ≤ limits.bytes → StandsFor text h → IsClean limits h → IsWellFormed h
-clean_well_formed limits text h within short stands clean =
-    let least = canonical_shortest h text stands in
-    let most = within.bytes in
-    let many = within.events in
-    let few = clean.few in
-    accepted_from greatest (canonical h) h (canonical_stands h) (omega arith) (omega arith) clean.each
+clean_well_formed limits text h within short stands clean = grind (arith, canonical_shortest, accepted_from, canonical_stands)
 
 -- the text is accepted and stands for a well-formed history
 pub record IsReadAs (limits : Limits) (text : List ℕ) (h : List Event) : Type 0 where

@@ -137,10 +137,6 @@ row_ended h x y name lives is same ended = subst (λ n. list_any (ends n) h ≡ 
 pub write_or : (names : Names) (p : ℕ × ℕ) (n : ℕ) → slice_get names.writes n ≡ Some p → IsWriteOr names p (n + 1)
 write_or names p n at = let e : suc n ≡ n + 1 = omega arith in subst (IsWriteOr names p) e at
 
-pub or_seen : (names : Names) (k v w : ℕ) → w ≢ 0 → IsWriteOr names (k, v) w → IsSeen names k v w
-or_seen names k v zero some is = absurd (some refl)
-or_seen names k v (suc w) some is = is
-
 pub has_key : (t : Tables) (k n : ℕ) → slice_get t.keys.items n ≡ Some k → HasKey t t k n
 has_key t k n is = record {
   same = record {
@@ -156,10 +152,7 @@ has_key t k n is = record {
 
 -- what was seen last stays so, as the tables grow
 still_seen : (t u : Tables) (rows : List SeenRow) → AreSound t → AreSound u → Grows t u → AreSeen (names_in t) rows → AreSeen (names_in u) rows
-still_seen t u rows sound sound_u grows seen = λ i x at.
-    let r = seen i x at in
-    let more = extends t u sound grows (few_writes u sound_u.short.writes) in
-    (front_get (names_in t).keys (names_in u).keys i x.key more.keys r.0, seen_more (names_in t) (names_in u) more x.key x.version x.write r.1)
+still_seen t u rows sound sound_u grows seen = grind (arith, extends, few_writes, front_get, seen_more)
 
 pub found_more : (d e : Draft) → AreFound d → AreSound e.tables × Grows d.tables e.tables → Finds e.txns (txn_names e.tables.txns.items) → Finds e.keys (map (λ (x : SeenRow). x.key) e.last_seen.items) → Tracks e.writes e.tables.writes.items → length e.tables.txns.items ≤ length e.writes.writers.items → e.tables.keys.items ≡ d.tables.keys.items → e.last_seen.items ≡ d.last_seen.items → AreFound e
 found_more d e found g txns keys writes long kept same = record {
@@ -183,10 +176,7 @@ key_found d e k found pushed g txns keys writes long more =
       writes = writes;
       long = long;
       level = ap (map (λ (x : SeenRow). x.key)) more ∙ map-append (λ (x : SeenRow). x.key) d.last_seen.items (record { key = k; version = 0; write = 0 } ∷ []) ∙ ap (λ ks. ks ++ k ∷ []) found.level ∙ sym pushed;
-      seen = subst (AreSeen (names_in e.tables)) (sym more) (λ i x at. elim (push_cases d.last_seen.items (record { key = k; version = 0; write = 0 }) i x at) [
-        | inl old ↦ seen i x old
-        | inr new ↦ (rw (new.0, new.1) is, rw (new.1) refl)
-      ]);
+      seen = grind (arith, push_cases);
     }
 
 -- another version of a key is seen
@@ -228,15 +218,9 @@ settled d e ev r knows found grows pushed names spells lives marked =
       ),
     )
 
-abbrev all_four : List ℕ → List ℕ → List (ℕ × ℕ) → List (ℕ × ℕ × List (ℕ × ℕ)) → Names
-all_four txns keys writes ranges = record { txns = txns; keys = keys; writes = writes; ranges = ranges }
-
 -- what one event more makes of the numbers
 pub names_step : (t u : Tables) (ev : Event) → AreTables t → txn_names u.txns.items ≡ entered same_number (txn_names t.txns.items) (actor ev) → u.keys.items ≡ fold (entered same_number) t.keys.items (keys_in ev) → (names_in u).writes ≡ fold (entered same_pair) (names_in t).writes (writes_in ev) → (names_in u).ranges ≡ (names_in t).ranges ++ ranges_in ev → names_in u ≡ names_of (events_of t ++ ev ∷ [])
-names_step t u ev tables txns keys writes ranges =
-    four txns keys writes ranges
-    ∙ ap (λ (n : Names). all_four (entered same_number n.txns (actor ev)) (fold (entered same_number) n.keys (keys_in ev)) (fold (entered same_pair) n.writes (writes_in ev)) (n.ranges ++ ranges_in ev)) tables.names
-    ∙ sym (names_push (events_of t) ev)
+names_step t u ev tables txns keys writes ranges = grind (arith, four, names_push)
 
 -- a transaction that acts
 module _ (t u : Tables) (name n : ℕ) (a : Acts t u name n) where
@@ -281,18 +265,12 @@ stops d e name ev refusals.NoMemory acts_is why = tt
 stops d e name ev (refusals.Bad r) acts_is why = (fault_by (events_of d.tables) (length (events_of d.tables)) ev true (ap (λ t. list_any (ends t) (events_of d.tables)) acts_is ∙ why.1) ∙ ap Some (sym why.0), ap events_of why.2)
 
 found_same : (u e : Draft) → AreFound u → AreSound e.tables × Grows u.tables e.tables → e.txns ≡ u.txns → e.keys ≡ u.keys → e.writes ≡ u.writes → e.last_seen.items ≡ u.last_seen.items → txn_names e.tables.txns.items ≡ txn_names u.tables.txns.items → e.tables.keys.items ≡ u.tables.keys.items → e.tables.writes.items ≡ u.tables.writes.items → AreFound e
-found_same u e found g fx fk fw fs txns keys writes =
-    let many : length e.tables.txns.items ≡ length u.tables.txns.items = sym (length-map e.tables.txns.items (λ (x : TxnRow). x.name)) ∙ ap length txns ∙ length-map u.tables.txns.items (λ (x : TxnRow). x.name) in
-    found_more u e found g (rw (fx, txns) found.txns) (rw (fk, fs) found.keys) (rw (fw, writes) found.writes) (rw (fw, many) found.long) keys fs
+found_same u e found g fx fk fw fs txns keys writes = grind (arith, length-map)
 
 -- one row more, where the names stay as they are
 pub found_pushed : (u e : Draft) (r : Row) → AreFound u → e.txns ≡ u.txns → e.keys ≡ u.keys → e.writes ≡ u.writes → e.last_seen.items ≡ u.last_seen.items → txn_names e.tables.txns.items ≡ txn_names u.tables.txns.items → e.tables.keys.items ≡ u.tables.keys.items → e.tables.writes.items ≡ u.tables.writes.items → e.tables.ranges.items ≡ u.tables.ranges.items → e.tables.pairs.items ≡ u.tables.pairs.items
     → e.tables.events.items ≡ u.tables.events.items ++ r ∷ [] → IsWithin (names_in e.tables) r → AreFound e × Grows u.tables e.tables
-found_pushed u e r found fx fk fw fs txns keys writes ranges pairs events within =
-    let p = pushed_sound u.tables e.tables r found.sound txns keys writes ranges pairs events within in (
-      found_same u e found p fx fk fw fs txns keys writes,
-      p.1,
-    )
+found_pushed u e r found fx fk fw fs txns keys writes ranges pairs events within = grind (arith, pushed_sound, found_same)
 
 -- an event of a transaction that goes on
 pub goes : (d e : Draft) (u : Tables) (name n : ℕ) (ev : Event) (r : Row) → Knows d → Acts d.tables u name n → AreFound e → Grows d.tables e.tables → e.tables.txns.items ≡ u.txns.items → e.tables.keys.items ≡ fold (entered same_number) d.tables.keys.items (keys_in ev) → (names_in e.tables).writes ≡ fold (entered same_pair) (names_in d.tables).writes (writes_in ev) → (names_in e.tables).ranges ≡ (names_in d.tables).ranges ++ ranges_in ev
@@ -421,19 +399,10 @@ read_refused d u w t n k kn v knows acting has found not_zero none =
     (own_reason h (length h) (Read t k v) NotWritten acting.going (read_unfit h (length h) t k v (unseen (names_in w.tables) h k v (same_writes d.tables u.tables w.tables t n k kn tables acting has) not_zero none)), spelled_still d.tables w.tables tables.sound (acts_key_grows d.tables u.tables w.tables t n k kn acting has) (few_writes w.tables found.sound.short.writes) (has.same.events ∙ acting.same.events))
 
 pub version_seen : (names : Names) (k v s : ℕ) → IsSeen names k v s → version_at names s ≡ v
-version_seen names k v zero seen = sym seen
-version_seen names k v (suc s) seen = ap (λ (p : ℕ × ℕ). p.1) (get_or_from_slice_get names.writes s (k, v) (0, 0) seen)
+version_seen names k v s seen = grind (arith, get_or_from_slice_get)
 
 pub own_read : (names : Names) (d kd s t k v : ℕ) → slice_get names.txns d ≡ Some t → slice_get names.keys kd ≡ Some k → IsSeen names k v s → list_any (same_pair (k, t)) names.writes ≡ true → IsReadRow names t k v (rows.OwnRead d kd s)
-own_read names d kd s t k v is_txn is_key seen own =
-    let txn : txn_at names d ≡ t = get_or_from_slice_get names.txns d t 0 is_txn in
-    let key : key_at names kd ≡ k = get_or_from_slice_get names.keys kd k 0 is_key in
-    let version = version_seen names k v s seen in
-    record {
-      spells = rw (txn, key, version) refl;
-      within = (slice_get_within names.txns d t is_txn, slice_get_within names.keys kd k is_key, rw (key, version) seen);
-      marked = λ h same. rw (txn, key, ← same) own;
-    }
+own_read names d kd s t k v is_txn is_key seen own = grind (arith, get_or_from_slice_get, version_seen, slice_get_within)
 
 pub first_read : (names : Names) (d kd s t k v w : ℕ) → slice_get names.txns d ≡ Some t → slice_get names.keys kd ≡ Some k → IsSeen names k v s → w ≡ 0 → IsWriteOr names (k, t) w → IsReadRow names t k v (rows.Read d kd s)
 first_read names d kd s t k v w is_txn is_key seen none new =
@@ -447,25 +416,21 @@ first_read names d kd s t k v w is_txn is_key seen none new =
     }
 
 pub write_there : (names : Names) (p : ℕ × ℕ) (w : ℕ) → w ≢ 0 → IsWriteOr names p w → list_any (same_pair p) names.writes ≡ true
-write_there names p zero some is = absurd (some refl)
-write_there names p (suc w) some is = pair_there names.writes w p is
+write_there names p w some is = grind (arith, pair_there)
 
 write_fine : (h : List Event) (n t k : ℕ) → own_fault h n (Write t k) ≡ None
 unfolding own_fault
 write_fine h n t k = refl
 
 match_start : (named : Option ℕ) (start n : ℕ) → MatchOption named (start ≡ n) (λ s. (start ≡ s) × (s ≤ n)) → MatchOption named (start ≡ n) (λ s. start ≡ s)
-match_start None start n at = at
-match_start (Some s) start n at = at.0
+match_start named start n at = grind (arith)
 
 early : (named : Option ℕ) (start n : ℕ) → MatchOption named (start ≡ n) (λ s. (start ≡ s) × (s ≤ n)) → MatchOption named ⊤ (λ s. s ≤ n)
-early None start n at = tt
-early (Some s) start n at = at.1
+early named start n at = grind (arith)
 
 begin_fine : (h : List Event) (n t : ℕ) (named : Option ℕ) → list_any (acts t) h ≡ false → MatchOption named ⊤ (λ s. s ≤ n) → own_fault h n (Begin t named) ≡ None
 unfolding own_fault
-begin_fine h n t None none at = rw (none) refl
-begin_fine h n t (Some s) none at = let low : nat_lt n s ≡ false = grind (arith, nat_tests) in rw (none, low) refl
+begin_fine h n t named none at = grind (arith)
 
 -- the number of a first write
 pub has_write : (t : Tables) (p : ℕ × ℕ) (w : ℕ) → w ≢ 0 → IsWriteOr (names_in t) p w → HasWrite t t p w
@@ -486,22 +451,7 @@ has_write t p (suc w) some is = record {
 }
 
 pub new_has_write : (t u : Tables) (d kd x k w : ℕ) → SameButWrites t u → u.writes.items ≡ t.writes.items ++ new_write d kd ∷ [] → slice_get (txn_names t.txns.items) d ≡ Some x → slice_get t.keys.items kd ≡ Some k → w ≡ length t.writes.items + 1 → list_any (same_pair (k, x)) (names_in t).writes ≡ false → HasWrite t u (k, x) w
-new_has_write t u d kd x k w same rows_are is_txn is_key number none =
-    let names : (names_in u).writes ≡ (names_in t).writes ++ (k, x) ∷ [] =
-    ap (λ (ts : List TxnRow). write_names (txn_names ts) u.keys.items u.writes.items) same.txns
-    ∙ ap (λ (ks : List ℕ). write_names (txn_names t.txns.items) ks u.writes.items) same.keys
-    ∙ ap (write_names (txn_names t.txns.items) t.keys.items) rows_are
-    ∙ map-append (λ (y : WriteRow). (get_or t.keys.items y.key 0, get_or (txn_names t.txns.items) y.txn 0)) t.writes.items (new_write d kd ∷ [])
-    ∙ ap₂ (λ a b. (names_in t).writes ++ (a, b) ∷ []) (get_or_from_slice_get t.keys.items kd k 0 is_key) (get_or_from_slice_get (txn_names t.txns.items) d x 0 is_txn) in
-    let l : length (names_in t).writes ≡ length t.writes.items = length-map t.writes.items (λ (y : WriteRow). (get_or t.keys.items y.key 0, get_or (txn_names t.txns.items) y.txn 0)) in
-    record {
-      same = same;
-      above = omega arith;
-      is = rw (names) (last_there (names_in t).writes (k, x) (w - 1) (omega arith));
-      more = new_write d kd ∷ [];
-      rows = rows_are;
-      names = names ∙ rw (none) refl;
-    }
+new_has_write t u d kd x k w same rows_are is_txn is_key number none = grind (arith, map-append, get_or_from_slice_get, length-map, last_there)
 
 write_grows : (t u : Tables) (p : ℕ × ℕ) (w : ℕ) → HasWrite t u p w → Grows t u
 write_grows t u p w has = record {
@@ -560,21 +510,18 @@ begin_now d u e t n start named knows new same rows_are is found at fx fk fw fs 
 
 -- which start a begin takes
 pub begin_at : (named : Option ℕ) (start count n : ℕ) → start ≡ unwrap_or named count → count ≡ n → ¬ (count < start) → MatchOption named (start ≡ n) (λ s. (start ≡ s) × (s ≤ n))
-begin_at None start count n is same low = is ∙ same
-begin_at (Some s) start count n is same low = (is, omega arith)
+begin_at named start count n is same low = grind (arith)
 
 pub there_acts : (t : Tables) (n name : ℕ) → AreTables t → slice_get (txn_names t.txns.items) n ≡ Some name → list_any (acts name) (events_of t) ≡ true
 there_acts t n name tables at = sym (numbered_acts name (events_of t)) ∙ ap (λ (names : Names). list_any (same_number name) names.txns) (sym tables.names) ∙ there_some (txn_names t.txns.items) n name at
 
 begun : (h : List Event) (n t : ℕ) (named : Option ℕ) → list_any (acts t) h ≡ true → own_fault h n (Begin t named) ≡ Some AlreadyBegun
 unfolding own_fault
-begun h n t None some = rw (some) refl
-begun h n t (Some s) some = rw (some) refl
+begun h n t named some = grind (arith)
 
 late : (h : List Event) (n t start : ℕ) (named : Option ℕ) → list_any (acts t) h ≡ false → start ≡ unwrap_or named n → n < start → own_fault h n (Begin t named) ≡ Some BadStart
 unfolding own_fault
-late h n t start None none is over = absurd (omega arith)
-late h n t start (Some s) none is over = let high : nat_lt n s ≡ true = (let e : start ≡ s = is in grind (arith, nat_tests)) in rw (none, high) refl
+late h n t start named none is over = grind (arith)
 
 pub begun_refused : (d e : Draft) (t n : ℕ) (named : Option ℕ) → Knows d → e.tables ≡ d.tables → slice_get (txn_names d.tables.txns.items) n ≡ Some t → list_any (ends t) (events_of d.tables) ≡ false → Takes d e (Begin t named) (Err (refusals.Bad AlreadyBegun))
 unfolding Takes
@@ -592,26 +539,14 @@ late_refused d e t start count named knows same new is taken over =
     (own_reason h (length h) (Begin t named) BadStart (none_ends t h none) (late h (length h) t start named none (taken ∙ ap (unwrap_or named) is) (let e2 : count ≡ length h = is in omega arith)), ap events_of same)
 
 seen_is : (names : Names) (k v s : ℕ) → IsSeen names k v s → is_seen names.writes (k, v) ≡ true
-seen_is names k v zero seen = rw (seen) refl
-seen_is names k v (suc s) seen = rw (pair_there names.writes s (k, v) seen, or-true (v == 0)) refl
+seen_is names k v s seen = grind (arith, pair_there, or-true)
 
 seen_pair : (names : Names) (k v s kn p : ℕ) → IsSeen names k v s → slice_get names.keys kn ≡ Some k → length names.writes < mark → (0 < s → p ≡ s) → (s ≡ 0 → p ≡ mark + kn) → pair_at names p ≡ (k, v)
 unfolding pair_at
-seen_pair names k v zero kn p seen key few some none =
-    let is : p ≡ mark + kn = none refl in
-    let above : nat_lt p mark ≡ false = grind (arith, nat_tests) in
-    let at : p - mark ≡ kn = omega arith in
-    rw (above, at) (ap₂ (λ a b. (a, b)) (get_or_from_slice_get names.keys kn k 0 key) (sym seen))
-seen_pair names k v (suc s) kn p seen key few some none =
-    let is : p ≡ suc s = some (omega arith) in
-    let w = slice_get_within names.writes s (k, v) seen in
-    let below : nat_lt p mark ≡ true = grind (arith, nat_tests) in
-    let at : p - 1 ≡ s = omega arith in
-    rw (below, at) (get_or_from_slice_get names.writes s (k, v) (0, 0) seen)
+seen_pair names k v s kn p seen key few some none = grind (arith, get_or_from_slice_get, slice_get_within)
 
 seen_is_pair : (names : Names) (k v s kn p : ℕ) → IsSeen names k v s → slice_get names.keys kn ≡ Some k → length names.writes < mark → (0 < s → p ≡ s) → (s ≡ 0 → p ≡ mark + kn) → IsPair names p
-seen_is_pair names k v zero kn p seen key few some none = let is : p ≡ mark + kn = none refl in let w = slice_get_within names.keys kn k key in inr (omega arith, omega arith)
-seen_is_pair names k v (suc s) kn p seen key few some none = let is : p ≡ suc s = some (omega arith) in let w = slice_get_within names.writes s (k, v) seen in inl (omega arith, omega arith, few)
+seen_is_pair names k v s kn p seen key few some none = grind (arith, slice_get_within)
 
 -- one listed pair more
 pub pair_pushed : (t w e : Draft) (k v p : ℕ) → AreFound t → HasPair t.tables w.tables k v p → AreFound w → length w.tables.pairs.items < 2147483648
@@ -663,19 +598,6 @@ lists_grows t u listed lists = record {
   writes = front_same t.writes.items u.writes.items lists.writes;
   ranges = front_same t.ranges.items u.ranges.items lists.ranges;
   pairs = (lists.more, lists.pairs);
-}
-
-pub lists_none : (t : Tables) → Lists t t []
-lists_none t = record {
-  txns = refl;
-  keys = refl;
-  writes = refl;
-  ranges = refl;
-  events = refl;
-  more = [];
-  pairs = sym (append-nil t.pairs.items);
-  are = refl;
-  seen = refl;
 }
 
 pub lists_more : (t u w : Tables) (listed all : List (ℕ × ℕ)) (k v : ℕ) → AreSound t → AreSound u → AreSound w → Lists t u listed → ListsOne u w k v → all ≡ listed ++ (k, v) ∷ [] → Lists t w all
@@ -754,10 +676,7 @@ list_refused d u w t n lo hi listed (refusals.Bad r) knows acting found order go
 -- the range that is spelled by the pairs of its list
 listed_range : (u w : Tables) (r : RangeRow) (listed : List (ℕ × ℕ)) → Lists u w listed → r.from ≡ length u.pairs.items → r.to ≡ length w.pairs.items → range_of (names_but_ranges w.txns.items w.keys.items w.writes.items) w.pairs.items r ≡ (r.lo, r.hi, listed)
 unfolding pair_at
-listed_range u w r listed lists from to =
-    let long : length w.pairs.items ≡ length u.pairs.items + length lists.more = ap length lists.pairs ∙ length-append u.pairs.items lists.more in
-    let part : take (r.to - r.from) (drop r.from w.pairs.items) ≡ lists.more = ap₂ (λ i xs. take (r.to - r.from) (drop i xs)) from lists.pairs ∙ ap (take (r.to - r.from)) (drop-append_seam u.pairs.items lists.more) ∙ take_all (r.to - r.from) lists.more (omega arith) in
-    ap (λ (xs : List (ℕ × ℕ)). (r.lo, r.hi, xs)) (ap (map (pair_at (names_but_ranges w.txns.items w.keys.items w.writes.items))) part ∙ lists.are)
+listed_range u w r listed lists from to = grind (arith, length-append, drop-append_seam, take_all)
 
 ranges_named : (t u w e : Tables) (r : RangeRow) (lo hi : ℕ) (listed : List (ℕ × ℕ)) → AreSound t → Grows t w → w.ranges.items ≡ t.ranges.items → Lists u w listed → r.lo ≡ lo → r.hi ≡ hi → r.from ≡ length u.pairs.items → r.to ≡ length w.pairs.items
     → e.txns.items ≡ w.txns.items → e.keys.items ≡ w.keys.items → e.writes.items ≡ w.writes.items → e.pairs.items ≡ w.pairs.items → e.ranges.items ≡ w.ranges.items ++ r ∷ [] → (names_in e).ranges ≡ (names_in t).ranges ++ (lo, hi, listed) ∷ []
@@ -833,3 +752,16 @@ none_known d txns keys writes ranges pairs events fx fk fw fs =
 
 pub counted : (t : Tables) (n : ℕ) → n ≡ vec_len t.events → n ≡ length (events_of t)
 counted t n is = let ok = t.events.ok in let l = length-map t.events.items (event_of (names_in t)) in omega (arith, is)
+
+pub lists_none : (t : Tables) → Lists t t []
+lists_none t = record {
+  txns = refl;
+  keys = refl;
+  writes = refl;
+  ranges = refl;
+  events = refl;
+  more = [];
+  pairs = sym (append-nil t.pairs.items);
+  are = refl;
+  seen = refl;
+}

@@ -37,9 +37,7 @@ pairs_again p (q ∷ ps) rest (suc m) enough = rw (pair_again p 44 (pairs_text q
 -- each pair takes more than one byte
 pairs_long : (p : ℕ × ℕ) (ps : List (ℕ × ℕ)) (rest : List ℕ) → length ps < length (pairs_text p ps rest)
 pairs_long p [] rest = omega (arith, length-append (numeral p.0) (58 ∷ (numeral p.1 ++ rest)))
-pairs_long p (q ∷ ps) rest =
-    let h = pairs_long q ps rest in
-    omega (arith, length-append (numeral p.0) (58 ∷ (numeral p.1 ++ (44 ∷ pairs_text q ps rest))), length-append (numeral p.1) (44 ∷ pairs_text q ps rest))
+pairs_long p (q ∷ ps) rest = grind (arith, length-append, pairs_text, pairs_long q ps rest)
 
 -- what follows an upper end, up to the closing bracket
 list_again : (listed : List (ℕ × ℕ)) → list_at (list_text listed) ≡ Ok (narrow_list listed, 93 ∷ [])
@@ -53,13 +51,7 @@ high_again hi (p ∷ ps) = number_again hi (59 ∷ pairs_text p ps (93 ∷ [])) 
 
 text_again : (e : Event) → event_at (event_text e) ≡ in_ranges e
 unfolding event_at begin_at write_at item_at range_at read_at commit_at abort_at after_byte ended
-text_again (Begin t None) = rw (number_again t [] tt) refl
-text_again (Begin t (Some n)) = rw (number_again t (64 ∷ (numeral n ++ [])) at_sign, number_again n [] tt) refl
-text_again (Read t k v) = rw (number_again t (91 ∷ (numeral k ++ (58 ∷ (numeral v ++ (93 ∷ []))))) open_bracket, number_again k (58 ∷ (numeral v ++ (93 ∷ []))) colon, number_again v (93 ∷ []) bracket) refl
-text_again (Range t lo hi listed) = rw (number_again t (91 ∷ (numeral lo ++ (46 ∷ 46 ∷ (numeral hi ++ list_text listed)))) open_bracket, number_again lo (46 ∷ 46 ∷ (numeral hi ++ list_text listed)) dot, high_again hi listed, list_again listed) refl
-text_again (Write t k) = rw (number_again t (91 ∷ (numeral k ++ (93 ∷ []))) open_bracket, number_again k (93 ∷ []) bracket) refl
-text_again (Commit t) = rw (number_again t [] tt) refl
-text_again (Abort t) = rw (number_again t [] tt) refl
+text_again e = grind (arith, number_again, at_sign, open_bracket, colon, bracket, list_text, dot, high_again, list_again)
 
 -- what is read of a spelling
 pub event_again : (e : Event) → event_at (spell e) ≡ in_ranges e

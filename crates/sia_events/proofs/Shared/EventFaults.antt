@@ -1,5 +1,5 @@
 -- By the kind of event, the fault that the tables find is the event's least reason.
-use Rattle.std.proofs.Common.{◌≡◌, ◌⊎◌, inl, inr, ℕ, ◌<◌, ◌≤◌, Bool, true, false, cond, List, Option, Some, None, refl, sym, subst, ◌∙◌, arith, nat_lt}
+use Rattle.std.proofs.Common.{◌≡◌, ◌⊎◌, inl, inr, ℕ, ◌<◌, ◌≤◌, Bool, true, false, cond, List, Option, Some, None, refl, subst, arith, nat_lt}
 use Rattle.std.specs.List.{list_any, list_all}
 use Rattle.std.proofs.lemmas.Bool.Decides.{nat_tests}
 use Rattle.sia_events.specs.declared.event.Event.{Event}
@@ -7,7 +7,7 @@ use Rattle.sia_events.specs.declared.event.Event.TheVariants.{Begin, Read, Range
 use Rattle.sia_events.specs.declared.fault.Reason.{Reason}
 use Rattle.sia_events.specs.declared.fault.Reason.TheVariants.{TooManyEvents, BadEvent, BadNumber, AlreadyEnded, AlreadyBegun, EmptyRange, BadList, NotWritten, BadStart}
 use Rattle.sia_events.specs.Events.{actor}
-use Rattle.sia_events.specs.Refusals.{IsInRange, IsGoodList, EventHas, reason_number}
+use Rattle.sia_events.specs.Refusals.{IsInRange, EventHas, reason_number}
 use Rattle.sia_events.specs.Known.{acts, ends, is_explained, goes_up, begin_fault, read_fault, range_fault, own_fault, fault_of}
 use Rattle.sia_events.proofs.Shared.Faults.{IsAmong, any_among, ends_is, true_false, good_list}
 use Rattle.sia_events.proofs.Shared.Fits.{none_acts}
@@ -16,21 +16,17 @@ use Rattle.std.proofs.lemmas.Option.{same_Some}
 
 -- a test that finds a fault
 found : (b : Bool) (r s : Reason) (rest : Option Reason) → cond b (Some r) rest ≡ Some s → ((b ≡ true) × (r ≡ s)) ⊎ ((b ≡ false) × (rest ≡ Some s))
-found true r s rest e = inl (refl, same_Some r s e)
-found false r s rest e = inr (refl, e)
+found b r s rest e = grind (arith, same_Some)
 
 found_else : (b : Bool) (r s : Reason) (rest : Option Reason) → cond b rest (Some r) ≡ Some s → ((b ≡ false) × (r ≡ s)) ⊎ ((b ≡ true) × (rest ≡ Some s))
-found_else true r s rest e = inr (refl, e)
-found_else false r s rest e = inl (refl, same_Some r s e)
+found_else b r s rest e = grind (arith, same_Some)
 
 no_more : (r : Reason) → ◌≡◌ {A = Option Reason} None (Some r) → ⊥
 no_more r e = cc
 
 -- a begin whose transaction has events before it
 begun : (events : List Event) (n t : ℕ) (start : Option ℕ) → IsInRange (Begin t start) → list_any (ends t) events ≡ false → list_any (acts t) events ≡ true → IsLeast n events (Begin t start) AlreadyBegun
-begun events n t start fits open_still p =
-    let a = acts_among events t p in
-    record { has = ((start, refl), a.0, a.1, a.2); least = lower_reasons n events (Begin t start) fits open_still }
+begun events n t start fits open_still p = grind (arith, acts_among, lower_reasons)
 
 begin_least : (events : List Event) (n t : ℕ) (start : Option ℕ) (r : Reason) → IsInRange (Begin t start) → list_any (ends t) events ≡ false → begin_fault events n t start ≡ Some r → IsLeast n events (Begin t start) r
 begin_least events n t None r fits open_still e = elim (found (list_any (acts t) events) AlreadyBegun r None e) [
@@ -68,23 +64,13 @@ read_least events n t k v r fits open_still e = elim (found_else (is_explained e
 -- a range's reasons, from those that are told first
 module _ (events : List Event) (n t lo hi : ℕ) (listed : List (ℕ × ℕ)) (fits : IsInRange (Range t lo hi listed)) (open_still : list_any (ends t) events ≡ false) where
   above : (s : Reason) → EventHas n (IsAmong events) (Range t lo hi listed) s → 7 ≤ reason_number s
-  above AlreadyBegun has = (let is = has.0.1 in cc)
-  above s has = let low : 6 ≤ reason_number s = lower_reasons n events (Range t lo hi listed) fits open_still s has in omega arith
+  above s has = grind (arith, lower_reasons)
 
   not_empty : nat_lt hi lo ≡ false → ¬ EventHas n (IsAmong events) (Range t lo hi listed) EmptyRange
-  not_empty some has =
-      let is = has.3 in let same_lo : lo ≡ has.0 = cc in let same_hi : hi ≡ has.1 = cc in
-      let less : has.1 < has.0 = has.4 in
-      let most : lo ≤ hi = grind (arith, nat_tests) in
-      omega arith
+  not_empty some has = grind (arith)
 
   in_order : goes_up lo hi listed ≡ true → ¬ EventHas n (IsAmong events) (Range t lo hi listed) BadList
-  in_order up has =
-      let is = has.3 in let same_lo : lo ≡ has.0 = cc in let same_hi : hi ≡ has.1 = cc in let same_list : listed ≡ has.2 = cc in
-      has.4 (good_from has.0 has.1 has.2 same_lo same_hi same_list)
-    where
-      good_from : (l h : ℕ) (ps : List (ℕ × ℕ)) → lo ≡ l → hi ≡ h → listed ≡ ps → IsGoodList l h ps
-      good_from l h ps a b d = good_list l h ps ((λ i. goes_up (sym a i) (sym b i) (sym d i)) ∙ up)
+  in_order up has = grind (arith, good_list)
 
   range_least : (r : Reason) → range_fault events lo hi listed ≡ Some r → IsLeast n events (Range t lo hi listed) r
   unfolding range_fault

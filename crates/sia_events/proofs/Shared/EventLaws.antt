@@ -1,6 +1,6 @@
 -- What a token is read to: a token that is read is spelled so, and each spelling is read.
-use Rattle.std.proofs.Common.{◌≡◌, ◌⊎◌, inl, inr, ℕ, zero, suc, ◌+◌, Bool, true, false, List, [], ◌∷◌, ◌++◌, length, drop, Option, Some, None, Result, Ok, Err, refl, ap, sym, ◌∙◌}
-use Rattle.std.specs.Prelude.{◌==◌, ⊤, if◌then◌else◌}
+use Rattle.std.proofs.Common.{◌≡◌, ◌⊎◌, inl, inr, ℕ, zero, suc, ◌+◌, Bool, true, false, List, [], ◌∷◌, ◌++◌, length, drop, Option, Some, None, Result, Ok, Err, refl, ap, sym, ◌∙◌, arith}
+use Rattle.std.specs.Prelude.{⊤, if◌then◌else◌}
 use Rattle.std.proofs.lemmas.Bool.{eqb-true}
 use Rattle.sia_events.specs.Text.{numeral}
 use Rattle.sia_events.specs.declared.fault.Reason.{Reason}
@@ -20,12 +20,7 @@ record Goes (byte : ℕ) (bytes rest : List ℕ) : Type 0 where
 
 after_cases : (byte : ℕ) (bytes : List ℕ) → Lacks (after_byte byte bytes) ⊎ ((rest : List ℕ) × Goes byte bytes rest)
 unfolding after_byte
-after_cases byte [] = inl refl
-after_cases byte (c ∷ rest) = by_test (c == byte) refl
-  where
-    by_test : (b : Bool) → (c == byte) ≡ b → Lacks (after_byte byte (c ∷ rest)) ⊎ ((more : List ℕ) × Goes byte (c ∷ rest) more)
-    by_test true e = inr (rest, record { whole = ap (λ n. n ∷ rest) (eqb-true c byte e); read = rw e refl })
-    by_test false e = inl (rw e refl)
+after_cases byte bytes = grind (arith, eqb-true)
 
 ended_cases : (bytes : List ℕ) → Lacks (ended bytes) ⊎ (bytes ≡ [])
 unfolding ended

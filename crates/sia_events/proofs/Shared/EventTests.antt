@@ -1,10 +1,10 @@
 -- What a test of each event says of a list of events and its transactions. At a list that is written out it computes.
-use Rattle.std.proofs.Common.{◌≡◌, ℕ, zero, suc, ◌+◌, ◌<◌, ◌≤◌, Bool, true, false, List, [], ◌∷◌, slice_get, take, drop, Some, None, refl, ap, sym, subst, ◌∙◌, arith}
+use Rattle.std.proofs.Common.{◌≡◌, ℕ, zero, suc, ◌+◌, ◌<◌, ◌≤◌, Bool, true, false, List, [], ◌∷◌, slice_get, take, drop, Some, None, refl, sym, subst, arith}
 use Rattle.std.specs.Prelude.{MatchOption, not, ◌&&◌, ◌==◌}
 use Rattle.std.specs.List.{list_any}
 use Rattle.std.proofs.lemmas.Bool.{or_parts, both_ways, eqb-true, eq-eqb, and_from}
 use Rattle.sia_events.specs.declared.event.Event.{Event}
-use Rattle.sia_events.specs.declared.event.Event.TheVariants.{Read, Range, Write, Commit, Abort}
+use Rattle.sia_events.specs.declared.event.Event.TheVariants.{Read, Range, Write, Commit}
 use Rattle.sia_events.specs.Places.{at_place}
 use Rattle.sia_events.specs.Events.{actor, named_start}
 use Rattle.sia_events.specs.Transactions.{IsFirstEvent, StartsAt, CommitsAt, IsCommitted, Wrote, WroteBefore}
@@ -19,11 +19,6 @@ acts t e = actor e == t
 abbrev pub commits : ℕ → Event → Bool
 commits t (Commit u) = u == t
 commits t e = false
-
--- t aborts
-abbrev pub aborts : ℕ → Event → Bool
-aborts t (Abort u) = u == t
-aborts t e = false
 
 -- t writes k
 abbrev pub writes : ℕ → ℕ → Event → Bool
@@ -57,31 +52,23 @@ module _ (test : Event → Bool) where
   from_index : (h : List Event) (n i : ℕ) (e : Event) → list_any test (take n h) ≡ false → slice_get h i ≡ Some e → test e ≡ true → n ≤ i
   from_index [] n i e none at pass = cc
   from_index (f ∷ h) zero i e none at pass = omega arith
-  from_index (f ∷ h) (suc n) zero e none at pass =
-      let same : f ≡ e = cc in
-      absurd (both_ways (test e) (ap test (sym same) ∙ (or_parts (test f) (list_any test (take n h)) none).0) pass)
-  from_index (f ∷ h) (suc n) (suc i) e none at pass =
-      let more : n ≤ i = from_index h n i e (or_parts (test f) (list_any test (take n h)) none).1 at pass in
-      omega arith
+  from_index (f ∷ h) (suc n) zero e none at pass = grind (arith, both_ways, or_parts)
+  from_index (f ∷ h) (suc n) (suc i) e none at pass = grind (arith, or_parts, from_index h n i e (or_parts (test f) (list_any test (take n h)) none).1 at pass)
 
   below_index : (h : List Event) (n i : ℕ) (e : Event) → list_any test (drop n h) ≡ false → slice_get h i ≡ Some e → test e ≡ true → i < n
   below_index [] n i e none at pass = cc
-  below_index (f ∷ h) zero zero e none at pass =
-      let same : f ≡ e = cc in
-      absurd (both_ways (test e) (ap test (sym same) ∙ (or_parts (test f) (list_any test h) none).0) pass)
+  below_index (f ∷ h) zero zero e none at pass = grind (arith, both_ways, or_parts)
   below_index (f ∷ h) zero (suc i) e none at pass = absurd (let less : i < 0 = below_index h zero i e (or_parts (test f) (list_any test h) none).1 at pass in omega arith)
   below_index (f ∷ h) (suc n) zero e none at pass = omega arith
   below_index (f ∷ h) (suc n) (suc i) e none at pass = let less : i < n = below_index h n i e none at pass in omega arith
 
   -- what passes stands after the first n events, where none of these does
   pub after_place : (h : List Event) (n p : ℕ) (e : Event) → list_any test (take n h) ≡ false → at_place h p ≡ Some e → test e ≡ true → n < p
-  after_place h n zero e none at pass = cc
-  after_place h n (suc i) e none at pass = let more : n ≤ i = from_index h n i e none at pass in omega arith
+  after_place h n p e none at pass = grind (arith, from_index)
 
   -- what passes stands at one of the first n places, where none of the later events does
   pub up_to_place : (h : List Event) (n p : ℕ) (e : Event) → list_any test (drop n h) ≡ false → at_place h p ≡ Some e → test e ≡ true → p ≤ n
-  up_to_place h n zero e none at pass = cc
-  up_to_place h n (suc i) e none at pass = let less : i < n = below_index h n i e none at pass in omega arith
+  up_to_place h n p e none at pass = grind (arith, below_index)
 
   -- no event passes
   pub nowhere : (h : List Event) (p : ℕ) (e : Event) → list_any test h ≡ false → at_place h p ≡ Some e → ¬ (test e ≡ true)
@@ -90,8 +77,7 @@ module _ (test : Event → Bool) where
 
 -- the other part of a test that fails
 other_part : (a b : Bool) → a ≡ true → ¬ ((a && not b) ≡ true) → b ≡ true
-other_part a true p n = refl
-other_part a false p n = absurd (n (and_from a true p refl))
+other_part a b p n = grind (arith, and_from)
 
 -- a first event, where the events before it are of others
 pub first_at : (h : List Event) (t n : ℕ) (e : Event) → at_place h (suc n) ≡ Some e → actor e ≡ t → list_any (acts t) (take n h) ≡ false → IsFirstEvent h t (suc n) e
@@ -119,10 +105,7 @@ pub not_wrote : (h : List Event) (t k : ℕ) → list_any (writes t k) h ≡ fal
 not_wrote h t k none w = nowhere (writes t k) h w.0 (Write t k) none w.1 (and_from (t == t) (k == k) (same_true t) (same_true k))
 
 pub not_wrote_before : (h : List Event) (t k n : ℕ) → list_any (writes t k) (take n h) ≡ false → ¬ WroteBefore h t k (suc n)
-not_wrote_before h t k n none w =
-    let after : n < w.0 = after_place (writes t k) h n w.0 (Write t k) none w.2 (and_from (t == t) (k == k) (same_true t) (same_true k)) in
-    let before : w.0 < suc n = w.1 in
-    omega arith
+not_wrote_before h t k n none w = grind (arith, after_place, and_from, same_true)
 
 -- t alone wrote k
 pub one_writer : (h : List Event) (t k : ℕ) → list_any (others_write t k) h ≡ false → (u : ℕ) → Wrote h u k → u ≡ t
@@ -134,14 +117,8 @@ one_key_written h t k none j w = eqb-true j k (other_part (t == t) (j == k) (sam
 
 -- t alone read k
 pub one_reader : (h : List Event) (t k : ℕ) → list_any (others_read t k) h ≡ false → (p u v : ℕ) → SawAt h p u k v → u ≡ t
-one_reader h t k none p u v (Read w j x, at, is, s) =
-    sym is ∙ eqb-true w t (other_part (j == k) (w == t) (eq-eqb j k (sym s.0)) (nowhere (others_read t k) h p (Read w j x) none at))
-one_reader h t k none p u v (Range w lo hi listed, at, is, s) = absurd (nowhere (others_read t k) h p (Range w lo hi listed) none at refl)
-one_reader h t k none p u v (_, at, is, s) = absurd s
+one_reader h t k none p u v q = grind (arith, eqb-true, other_part, eq-eqb, nowhere)
 
 -- t read k alone
 pub one_key_read : (h : List Event) (t k : ℕ) → list_any (reads_others t k) h ≡ false → (p j v : ℕ) → SawAt h p t j v → j ≡ k
-one_key_read h t k none p j v (Read w i x, at, is, s) =
-    s.0 ∙ eqb-true i k (other_part (w == t) (i == k) (eq-eqb w t is) (nowhere (reads_others t k) h p (Read w i x) none at))
-one_key_read h t k none p j v (Range w lo hi listed, at, is, s) = absurd (nowhere (reads_others t k) h p (Range w lo hi listed) none at refl)
-one_key_read h t k none p j v (_, at, is, s) = absurd s
+one_key_read h t k none p j v q = grind (arith, eqb-true, other_part, eq-eqb, nowhere)

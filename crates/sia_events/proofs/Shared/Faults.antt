@@ -35,17 +35,10 @@ pub same_true : (n : ℕ) → (n == n) ≡ true
 same_true n = grind (arith, nat_tests)
 
 pub ends_is : (t : ℕ) (e : Event) → ends t e ≡ true → (e ≡ Commit t) ⊎ (e ≡ Abort t)
-ends_is t (Commit u) p = inl (ap Commit (sym (eqb-true t u p)))
-ends_is t (Abort u) p = inr (ap Abort (sym (eqb-true t u p)))
-ends_is t _ p = absurd cc
+ends_is t e p = grind (arith, eqb-true)
 
 pub writes_is : (k v : ℕ) (e : Event) → writes (k, v) e ≡ true → e ≡ Write v k
-writes_is k v (Write u j) p =
-    let h = and_parts (k == j) (v == u) p in
-    let a = eqb-true k j h.0 in
-    let b = eqb-true v u h.1 in
-    λ i. Write (sym b i) (sym a i)
-writes_is k v _ p = absurd cc
+writes_is k v e p = grind (arith, and_parts, eqb-true)
 
 pub writes_same : (k v : ℕ) → writes (k, v) (Write v k) ≡ true
 writes_same k v = rw (same_true k, same_true v) refl
@@ -56,12 +49,10 @@ true_false b p q = cc
 -- ---- an event in which the tables find no fault has no reason
 
 pub none_of : (b : Bool) (r : Reason) (rest : Option Reason) → cond b (Some r) rest ≡ None → (b ≡ false) × (rest ≡ None)
-none_of true r rest e = absurd cc
-none_of false r rest e = (refl, e)
+none_of b r rest e = grind (arith)
 
 pub else_none : (b : Bool) (r : Reason) (rest : Option Reason) → cond b rest (Some r) ≡ None → (b ≡ true) × (rest ≡ None)
-else_none true r rest e = (refl, e)
-else_none false r rest e = absurd cc
+else_none b r rest e = grind (arith)
 
 pub explained : (events : List Event) (k v : ℕ) → is_explained events (k, v) ≡ true → v ≢ 0 → IsAmong events (Write v k)
 unfolding is_explained
@@ -72,8 +63,7 @@ explained events k v p other =
 
 pub all_explained : (events : List Event) (listed : List (ℕ × ℕ)) → list_all (is_explained events) listed ≡ true → (k v : ℕ) → Contains listed (k, v) → v ≢ 0 → IsAmong events (Write v k)
 all_explained events [] q k v (i, below, e) other = absurd (omega arith)
-all_explained events (p ∷ ps) q k v (zero, below, e) other =
-    (let h = and_parts (is_explained events p) (list_all (is_explained events) ps) q in explained events k v (subst (λ r. is_explained events r ≡ true) e h.0) other)
+all_explained events (p ∷ ps) q k v (zero, below, e) other = grind (arith, and_parts, explained)
 all_explained events (p ∷ ps) q k v (suc i, below, e) other =
     (let h = and_parts (is_explained events p) (list_all (is_explained events) ps) q in all_explained events ps h.1 k v (i, omega arith, e) other)
 

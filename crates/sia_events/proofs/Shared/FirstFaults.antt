@@ -13,7 +13,7 @@ use Rattle.sia_events.specs.Refusals.{EventHas, IsEarlier, TokenHas, HasReason, 
 use Rattle.sia_events.specs.Parsing.{◌>>=◌, event_at}
 use Rattle.sia_events.specs.Known.{fault_of}
 use Rattle.sia_events.specs.Judging.{unless, judged, StopsAt}
-use Rattle.sia_events.proofs.Shared.Spelling.{spell_injective}
+use Rattle.sia_events.proofs.OfLaws.Unspelling.{spell_injective}
 use Rattle.sia_events.proofs.Writing.WellFormed.{IsBefore, moved}
 use Rattle.sia_events.proofs.Shared.Refusing.{place_event, fit_has_none}
 use Rattle.sia_events.proofs.Shared.EventCases.{token_cases}
@@ -47,18 +47,14 @@ of_event limits es w e few is BadEvent has = absurd (has e is)
 of_event limits es w e few is r has = subst (λ f. EventHas (length es) (IsAmong es) f r) (spell_injective has.0 e (sym has.1 ∙ is)) has.2
 
 to_next : (limits : Limits) (es : List Event) (w : List ℕ) (e : Event) → w ≡ spell e → (s : Reason) → EventHas (length es) (IsAmong es) e s → NextHas limits es w s
-to_next limits es w e is TooManyEvents has = absurd has
-to_next limits es w e is BadEvent has = absurd has
-to_next limits es w e is _ has = (e, is, has)
+to_next limits es w e is s has = grind (arith)
 
 unspelled_least : (limits : Limits) (es : List Event) (w : List ℕ) → length es ≢ limits.events → ((e : Event) → w ≢ spell e) → (s : Reason) → NextHas limits es w s → 3 ≤ reason_number s
 unspelled_least limits es w few none TooManyEvents has = absurd (few has)
 unspelled_least limits es w few none _ has = omega arith
 
 number_least : (n : ℕ) (es : List Event) (e : Event) → (s : Reason) → EventHas n (IsAmong es) e s → 4 ≤ reason_number s
-number_least n es e TooManyEvents has = absurd has
-number_least n es e BadEvent has = absurd has
-number_least n es e _ has = omega arith
+number_least n es e s has = grind (arith)
 
 guard_err : (b : Bool) (d r : Reason) (rest : Result Event Reason) → cond b (Err d) rest ≡ Err r → ((b ≡ true) × (d ≡ r)) ⊎ ((b ≡ false) × (rest ≡ Err r))
 guard_err true d r rest e = inl (refl, (let same : d ≡ r = cc in same))

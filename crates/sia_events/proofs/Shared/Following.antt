@@ -46,8 +46,7 @@ tokens_gap text c e =
     ∙ sym (tokens_cut text closed rest cut)
 
 length_one : (w : List ℕ) → w ≢ [] → length (as_token w) ≡ 1
-length_one [] some = absurd (some refl)
-length_one (c ∷ cs) some = refl
+length_one w some = grind (arith)
 
 -- ---- more text behind a token
 
@@ -56,26 +55,14 @@ has_more l now text rest more number place token begins h =
     let a = h.at in
     record {
       token = h.token;
-      at = record {
-        front = a.front;
-        rest = rest ++ more;
-        whole = ap (λ (t : List ℕ). t ++ more) a.whole ∙ append_assoc a.front (h.token ++ a.rest) more
-            ∙ ap (λ (t : List ℕ). a.front ++ t) (append_assoc h.token a.rest more ∙ ap (λ (r : List ℕ). h.token ++ (r ++ more)) h.left);
-        some = a.some;
-        unbroken = a.unbroken;
-        front_ends = a.front_ends;
-        rest_begins = begins;
-        number_is = a.number_is ∙ sym number;
-        begins = subst (λ (p : Place). IsPlaceAfter a.front p.line p.column) (sym place) a.begins;
-      };
+      at = grind (arith, append_assoc);
       kept = token ∙ h.kept;
       left = refl;
     }
 
 -- a token that has ended stays where it is
 pub ended_more : (l now : Located) (text more : List ℕ) → now.number ≡ l.number → now.place ≡ l.place → now.token ≡ l.token → HasEnded l text → HasEnded now (text ++ more)
-ended_more l now text more number place token h =
-    (h.0, h.1 ++ more, has_more l now text (h.0 ∷ h.1) more number place token (ap goes_on (sym h.2.left) ∙ h.2.at.rest_begins) h.2)
+ended_more l now text more number place token h = grind (arith, has_more l now text (h.0 ∷ h.1) more number place token (ap goes_on (sym h.2.left) ∙ h.2.at.rest_begins) h.2)
 
 -- ---- one more byte
 
@@ -99,9 +86,7 @@ module _ (l : Located) (text : List ℕ) (c : ℕ) (next : Place) (f : Follows l
 
   -- one more byte of the token
   whole_on : (h : HasToken l text []) → text ++ c ∷ [] ≡ h.at.front ++ (h.token ++ c ∷ [])
-  whole_on h =
-      ap (λ (t : List ℕ). t ++ c ∷ []) (h.at.whole ∙ ap (λ (r : List ℕ). h.at.front ++ (h.token ++ r)) h.left ∙ ap (λ (t : List ℕ). h.at.front ++ t) (append-nil h.token))
-      ∙ append_assoc h.at.front h.token (c ∷ [])
+  whole_on h = grind (arith, append-nil, append_assoc)
 
   token_on : (kept : List ℕ) (h : HasToken l text []) → is_separator c ≡ false → kept ≡ take 60 (l.token ++ c ∷ [])
       → HasToken (record { number = l.number; next = next; place = l.place; token = kept; is_open = l.is_open }) (text ++ c ∷ []) []
@@ -150,17 +135,7 @@ module _ (l : Located) (text : List ℕ) (c : ℕ) (next : Place) (f : Follows l
         next_is = behind;
         unfinished = λ same. record {
           token = c ∷ [];
-          at = record {
-            front = text;
-            rest = [];
-            whole = refl;
-            some = λ none. cc;
-            unbroken = All-from_recursion (λ b. is_separator b ≡ false) (c ∷ []) (e, tt);
-            front_ends = f.between closed;
-            rest_begins = refl;
-            number_is = omega arith;
-            begins = f.next_is;
-          };
+          at = grind (arith, All-from_recursion);
           kept = keeps;
           left = refl;
         };

@@ -1,5 +1,5 @@
 -- What a log's tables answer.
-use Rattle.std.proofs.Common.{◌≡◌, ◌≢◌, ℕ, zero, suc, ◌+◌, ◌-◌, ◌<◌, ◌≤◌, List, [], ◌∷◌, ◌++◌, inl, inr, length, map, take, drop, get_or, Option, Some, None, refl, sym, subst, ◌∙◌, ap, ap₂, arith, slice_get, nat_lt, false, true, flat_map}
+use Rattle.std.proofs.Common.{◌≡◌, ◌≢◌, ℕ, zero, suc, ◌+◌, ◌-◌, ◌<◌, ◌≤◌, List, [], ◌∷◌, ◌++◌, length, map, take, drop, get_or, Option, Some, None, refl, sym, subst, ◌∙◌, ap, ap₂, arith, slice_get, nat_lt, false, true, flat_map}
 use Rattle.std.specs.Prelude.{IfSome}
 use Rattle.std.specs.Option.{option_map}
 use Rattle.std.specs.List.Sorted.{IsStrictlyIncreasing}
@@ -13,13 +13,12 @@ use Rattle.sia_events.specs.declared.event.Event.TheVariants.{Range}
 use Rattle.sia_events.specs.declared.log.Row.{Row}
 use Rattle.sia_events.specs.declared.log.TxnRow.{TxnRow}
 use Rattle.sia_events.specs.declared.log.RangeRow.{RangeRow}
-use Rattle.sia_events.specs.declared.log.WriteRow.{WriteRow}
 use Rattle.sia_events.specs.declared.log.Tables.{Tables}
 use Rattle.sia_events.specs.Places.{at_place}
 use Rattle.sia_events.specs.Refusals.{IsWellFormed}
 use Rattle.sia_events.specs.Transactions.{StartsAt}
 use Rattle.sia_events.specs.Numbering.{Names, names_of, txns_of, ranges_of, IsPair, IsSeen, mark, key_at, version_at, write_at, range_at, pair_at, ranges_in, event_of, IsMarked, AscendByKey}
-use Rattle.sia_events.specs.LogTables.{names_in, txn_names, names_but_ranges, range_of, events_of, AreTables, Lives}
+use Rattle.sia_events.specs.LogTables.{names_in, names_but_ranges, range_of, events_of, AreTables, Lives}
 use Rattle.sia_events.proofs.Writing.WellFormed.{few_events}
 use Rattle.sia_events.proofs.Writing.Ranges.{list_in_order}
 use Rattle.sia_events.proofs.LogRows.Lived.{to_get}
@@ -29,35 +28,24 @@ pub few_rows : (t : Tables) → IsWellFormed (events_of t) → length t.events.i
 few_rows t fine = let l = length-map t.events.items (event_of (names_in t)) in let few = few_events (events_of t) fine in omega arith
 
 pub row_event : (t : Tables) (place : ℕ) (r : Option Row) → AreTables t → place ≢ 0 → r ≡ slice_get t.events.items (place - 1) → option_map (event_of (names_of (events_of t))) r ≡ at_place (events_of t) place
-row_event t place r tables above is =
-    let e : suc (place - 1) ≡ place = omega arith in
-    ap₂ (λ (ns : Names) (o : Option Row). option_map (event_of ns) o) (sym tables.names) is ∙ sym (slice_get-map (event_of (names_in t)) t.events.items (place - 1)) ∙ ap (at_place (events_of t)) e
+row_event t place r tables above is = grind (arith, slice_get-map)
 
 pub row_marked : (t : Tables) (place : ℕ) (r : Option Row) → AreTables t → r ≡ slice_get t.events.items (place - 1) → IfSome r (IsMarked (names_of (events_of t)) (take (place - 1) (events_of t)))
-row_marked t place None tables is = tt
-row_marked t place (Some r) tables is = subst (λ (ns : Names). IsMarked ns (take (place - 1) (events_of t)) r) tables.names (tables.marked (place - 1) r (sym is))
+row_marked t place r tables is = grind (arith)
 
 pub row_starts : (t : Tables) (n : ℕ) (x : TxnRow) → AreTables t → n < length t.txns.items → x ≡ get_or t.txns.items n x → StartsAt (events_of t) x.name x.start
 row_starts t n x tables less is = (to_get (Lives (events_of t)) t.txns.items n x tables.lives (slice_get-get_or t.txns.items n x less ∙ ap Some (sym is))).0
 
 pub range_listed : (t : Tables) (n : ℕ) (r : RangeRow) → AreTables t → n < length t.ranges.items → r ≡ get_or t.ranges.items n r → map (pair_at (names_of (events_of t))) (take (r.to - r.from) (drop r.from t.pairs.items)) ≡ (range_at (names_of (events_of t)) n).2
 unfolding pair_at
-range_listed t n r tables less is =
-    let there : slice_get t.ranges.items n ≡ Some r = slice_get-get_or t.ranges.items n r less ∙ ap Some (sym is) in
-    let named = get_or_from_slice_get (names_in t).ranges n (range_of (names_but_ranges t.txns.items t.keys.items t.writes.items) t.pairs.items r) (0, 0, []) (map_get (range_of (names_but_ranges t.txns.items t.keys.items t.writes.items) t.pairs.items) t.ranges.items n r there) in
-    ap (λ (ns : Names). map (pair_at ns) (take (r.to - r.from) (drop r.from t.pairs.items))) (sym tables.names) ∙ ap (λ (x : ℕ × ℕ × List (ℕ × ℕ)). x.2) (sym named) ∙ ap (λ (ns : Names). (range_at ns n).2) tables.names
+range_listed t n r tables less is = grind (arith, slice_get-get_or, get_or_from_slice_get, map_get)
 
 pub seen_low : (names : Names) (p k t : ℕ) → 0 < p → slice_get names.writes (p - 1) ≡ Some (k, t) → IsSeen names k (version_at names p) p
-seen_low names zero k t above at = absurd (omega arith)
-seen_low names (suc p) k t above at =
-    let e : suc p - 1 ≡ p = omega arith in
-    let there : slice_get names.writes p ≡ Some (k, t) = ap (slice_get names.writes) (sym e) ∙ at in
-    there ∙ ap (λ (q : ℕ × ℕ). Some (k, q.1)) (sym (get_or_from_slice_get names.writes p (k, t) (0, 0) there))
+seen_low names p k t above at = grind (arith, get_or_from_slice_get)
 
 -- what was seen of a write is what it made
 pub seen_write : (names : Names) (k v w : ℕ) → 0 < w → IsSeen names k v w → write_at names (w - 1) ≡ (k, v)
-seen_write names k v zero some seen = absurd (omega arith)
-seen_write names k v (suc w) some seen = let e : suc w - 1 ≡ w = omega arith in ap (write_at names) e ∙ get_or_from_slice_get names.writes w (k, v) (0, 0) seen
+seen_write names k v w some seen = grind (arith, get_or_from_slice_get)
 
 pub pair_low : (names : Names) (p k v : ℕ) → p < mark → 0 < p → IsSeen names k v p → pair_at names p ≡ (k, v)
 unfolding pair_at
@@ -70,22 +58,11 @@ pair_high names p high = let above : nat_lt p mark ≡ false = grind (arith, nat
 -- what a pair's number stands for
 pub seen_pair : (names : Names) (k w p : ℕ) → k < length names.keys → length names.writes < mark → IsSeen names (key_at names k) (version_at names w) w → (0 < w → p ≡ w) → (w ≡ 0 → p ≡ mark + k)
     → IsPair names p × (pair_at names p ≡ (key_at names k, version_at names w))
-seen_pair names k zero p key few seen some none =
-    let is = none refl in
-    let back : mark + k - mark ≡ k = omega arith in
-    rw is ((inr (omega arith, omega arith)), pair_high names (mark + k) (omega arith) ∙ ap (λ j. (key_at names j, 0)) back)
-seen_pair names k (suc w) p key few seen some none =
-    let is = some (omega arith) in
-    let within = slice_get_within names.writes w (key_at names k, version_at names (suc w)) seen in
-    rw is ((inl (omega arith, omega arith, few)), pair_low names (suc w) (key_at names k) (version_at names (suc w)) (omega arith) (omega arith) seen)
+seen_pair names k w p key few seen some none = grind (arith, pair_high, slice_get_within, pair_low)
 
 -- there are few keys and first writes
 pub few_names : (t : Tables) (h : List Event) → AreTables t → events_of t ≡ h → (length (names_of h).keys ≤ 536870912) × (length (names_of h).writes < mark)
-few_names t h tables is =
-    let long : length (names_in t).writes ≡ length t.writes.items = length-map t.writes.items (λ (y : WriteRow). (get_or t.keys.items y.key 0, get_or (txn_names t.txns.items) y.txn 0)) in
-    let keys : length t.keys.items ≤ 536870912 = tables.sound.short.keys in
-    let writes : length t.writes.items ≤ 536870912 = tables.sound.short.writes in
-    subst (λ (ns : Names). (length ns.keys ≤ 536870912) × (length ns.writes < mark)) (tables.names ∙ ap names_of is) (keys, omega arith)
+few_names t h tables is = grind (arith, length-map)
 
 pub txn_room : (t : Tables) (n : ℕ) → AreTables t → n < length (txns_of (events_of t)) → n < length t.txns.items
 txn_room t n tables less = let e : length (txns_of (events_of t)) ≡ length t.txns.items = ap (λ (ns : Names). length ns.txns) (sym tables.names) ∙ length-map t.txns.items (λ (x : TxnRow). x.name) in omega arith
@@ -94,8 +71,7 @@ pub range_room : (t : Tables) (n : ℕ) → AreTables t → n < length (ranges_o
 range_room t n tables less = let e : length (ranges_of (events_of t)) ≡ length t.ranges.items = ap (λ (ns : Names). length ns.ranges) (sym tables.names) ∙ length-map t.ranges.items (range_of (names_but_ranges t.txns.items t.keys.items t.writes.items) t.pairs.items) in omega arith
 
 pub pair_above : (names : Names) (p : ℕ) → IsPair names p → p < mark → 0 < p
-pair_above names p (inl low) less = low.0
-pair_above names p (inr high) less = absurd (let a = high.0 in omega arith)
+pair_above names p h less = grind (arith)
 
 pub next_event : (h : List Event) (i : ℕ) (names : Names) (row : Row) (events now : List Event) (e : Event) → i < length h → Some (event_of names row) ≡ at_place h (i + 1) → e ≡ event_of names row → events ≡ take i h → now ≡ events ++ e ∷ [] → now ≡ take (i + 1) h
 next_event h i names row events now e less at is before pushed =

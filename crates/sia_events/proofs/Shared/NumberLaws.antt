@@ -1,6 +1,5 @@
 -- A number that is read is spelled so, and a numeral is read again.
-use Rattle.std.proofs.Common.{◌≡◌, ◌⊎◌, inl, inr, ℕ, zero, suc, ◌+◌, ◌-◌, ◌*◌, ◌/◌, ◌%◌, ◌<◌, ◌≤◌, Bool, true, false, List, [], ◌∷◌, ◌++◌, length, take, drop, get_or, Ok, Err, refl, ap, sym, subst, ◌∙◌, append_assoc, arith, nat_lt, nat_le}
-use Rattle.std.specs.Prelude.{◌==◌}
+use Rattle.std.proofs.Common.{◌≡◌, ◌==◌, ◌⊎◌, inl, inr, ℕ, zero, suc, ◌+◌, ◌-◌, ◌/◌, ◌%◌, ◌<◌, ◌≤◌, Bool, true, false, List, [], ◌∷◌, ◌++◌, length, take, drop, Ok, Err, refl, ap, sym, subst, ◌∙◌, append_assoc, arith, nat_lt, nat_le}
 use Rattle.std.proofs.lemmas.List.{append-nil}
 use Rattle.std.proofs.lemmas.Bool.{cases_lt, and_parts, leb-true, false_from_ne_true}
 use Rattle.std.proofs.lemmas.Bool.Decides.{nat_tests}
@@ -75,13 +74,7 @@ IsNumeral (c ∷ []) = Unit {0}
 IsNumeral (c ∷ d ∷ ds) = 48 < c
 
 one_more : (front : List ℕ) (c : ℕ) → IsDigit c → 0 < value_of front → numeral (value_of front) ≡ front → numeral (value_of (front ++ c ∷ [])) ≡ front ++ c ∷ []
-one_more front c d positive e =
-    let v : value_of (front ++ c ∷ []) ≡ 10 * value_of front + (c - 48) = value_of-append front c in
-    let low : 48 ≤ c = d.0 in
-    let high : c ≤ 57 = d.1 in
-    let tens : value_of (front ++ c ∷ []) / 10 ≡ value_of front = omega arith in
-    let ones : 48 + value_of (front ++ c ∷ []) % 10 ≡ c = omega arith in
-    numeral_step (value_of (front ++ c ∷ [])) (omega arith) ∙ rw (tens, ones, e) refl
+one_more front c d positive e = grind (arith, value_of, value_of-append, numeral_step)
 
 more_digits : (front ds : List ℕ) → AreDigits ds → 0 < value_of front → numeral (value_of front) ≡ front → numeral (value_of (front ++ ds)) ≡ front ++ ds
 more_digits front [] a positive e = rw append-nil e
@@ -91,12 +84,7 @@ more_digits front (c ∷ ds) a positive e =
     subst (λ (xs : List ℕ). numeral (value_of xs) ≡ xs) (sym regrouped) (more_digits (front ++ c ∷ []) ds a.1 grows (one_more front c a.0 positive e))
 
 one_numeral : (c : ℕ) → IsDigit c → numeral (value_of (c ∷ [])) ≡ c ∷ []
-one_numeral c d =
-    let low : 48 ≤ c = d.0 in
-    let high : c ≤ 57 = d.1 in
-    let v : value_of (c ∷ []) ≡ c - 48 = omega arith in
-    let same : 48 + value_of (c ∷ []) ≡ c = omega arith in
-    numeral_digit (value_of (c ∷ [])) (omega arith) ∙ ap (λ n. n ∷ []) same
+one_numeral c d = grind (arith, value_of, numeral_digit)
 
 numeral_of_digits : (ds : List ℕ) → AreDigits ds → IsNumeral ds → numeral (value_of ds) ≡ ds
 numeral_of_digits [] a n = absurd n
@@ -107,9 +95,7 @@ numeral_of_digits (c ∷ d ∷ ds) a n =
 
 -- a numeral has no leading zero
 IsNumeral-append : (ds : List ℕ) (c : ℕ) → IsNumeral ds → 0 < value_of ds → AreDigits ds → IsNumeral (ds ++ c ∷ [])
-IsNumeral-append [] c n positive a = absurd n
-IsNumeral-append (d ∷ []) c n positive a = (let v : value_of (d ∷ []) ≡ d - 48 = omega arith in omega arith)
-IsNumeral-append (d ∷ e ∷ ds) c n positive a = n
+IsNumeral-append ds c n positive a = grind (arith, value_of)
 
 numeral_numeral_below : (limit n : ℕ) → n < limit → IsNumeral (numeral n)
 numeral_numeral_below zero n below = absurd (omega arith)
@@ -132,26 +118,15 @@ lacks (c ∷ d ∷ ds) = c == 48
 
 lacks_numeral_is : (bytes ds rest : List ℕ) → SplitsDigits bytes ds rest → lacks_numeral bytes ≡ lacks ds
 unfolding lacks
-lacks_numeral_is bytes (c ∷ d ∷ ds) rest s =
-    let long : digits_len bytes ≡ suc (suc (length ds)) = s.len in
-    let some : (digits_len bytes == 0) ≡ false = grind (arith, nat_tests) in
-    let more : nat_lt 1 (digits_len bytes) ≡ true = grind (arith, nat_tests) in
-    let first : get_or bytes 0 0 ≡ c = ap (λ (xs : List ℕ). get_or xs 0 0) s.whole in
-    let same : (get_or bytes 0 0 == 48) ≡ (c == 48) = ap (λ n. n == 48) first in
-    rw (some, more) same
-lacks_numeral_is bytes _ rest s = rw s.len refl
+lacks_numeral_is bytes ds rest s = grind (arith, nat_lt)
 
 lacks_none : (ds : List ℕ) → IsNumeral ds → lacks ds ≡ false
 unfolding lacks
-lacks_none [] n = absurd n
-lacks_none (c ∷ []) n = refl
-lacks_none (c ∷ d ∷ ds) n = let above : 48 < c = n in grind (arith, nat_tests)
+lacks_none ds n = grind (arith)
 
 not_lacking : (ds : List ℕ) → AreDigits ds → lacks ds ≡ false → IsNumeral ds
 unfolding lacks
-not_lacking [] a e = absurd cc
-not_lacking (c ∷ []) a e = tt
-not_lacking (c ∷ d ∷ ds) a e = let low : 48 ≤ c = a.0.0 in (let above : 48 < c = grind (arith, nat_tests) in above)
+not_lacking ds a e = grind (arith)
 
 -- a number stands at the front of the bytes, and what follows it
 pub record BeginsWith (bytes : List ℕ) (n : ℕ) (rest : List ℕ) : Type 0 where

@@ -1,18 +1,18 @@
 -- The refusal of a text whose tokens spell events, from the reasons that these have among themselves.
-use Rattle.std.proofs.Common.{◌≡◌, ◌≢◌, inl, inr, ℕ, ◌+◌, ◌-◌, ◌<◌, ◌≤◌, List, map, length, Option, Some, None, refl, ap, sym, subst, ◌∙◌, arith}
+use Rattle.std.proofs.Common.{◌≡◌, ◌≢◌, ℕ, ◌+◌, ◌-◌, ◌≤◌, List, map, length, Option, Some, None, refl, ap, sym, subst, ◌∙◌, arith}
 use Rattle.std.specs.Option.{option_map}
 use Rattle.std.proofs.lemmas.List.{length-map}
 use Rattle.sia_events.specs.Limits.{Limits}
 use Rattle.sia_events.specs.declared.event.Event.{Event}
 use Rattle.sia_events.specs.declared.event.Event.TheVariants.{Write, Commit, Abort}
 use Rattle.sia_events.specs.declared.fault.Reason.{Reason}
-use Rattle.sia_events.specs.declared.fault.Reason.TheVariants.{TooManyEvents, BadEvent, BadNumber, AlreadyEnded, AlreadyBegun, EmptyRange, BadList, NotWritten, BadStart}
+use Rattle.sia_events.specs.declared.fault.Reason.TheVariants.{TooManyEvents, BadEvent}
 use Rattle.sia_events.specs.declared.fault.TextFault.TheVariants.{NoMemory, TextTooLong, Refused}
 use Rattle.sia_events.specs.Places.{at_place}
 use Rattle.sia_events.specs.Events.{actor, named_start, Saw}
 use Rattle.sia_events.specs.Text.{spell, StandsFor}
 use Rattle.sia_events.specs.Refusals.{IsInRange, EventHas, IsEarlier, TokenHas, HasReason, AnyForm, IsBegin, IsEmptyRange, HasBadList, IsAccepted}
-use Rattle.sia_events.proofs.Shared.Spelling.{spell_injective}
+use Rattle.sia_events.proofs.OfLaws.Unspelling.{spell_injective}
 use Rattle.sia_events.proofs.Writing.WellFormed.{IsBefore, at_place-map, before_earlier, earlier_before, moved}
 use Rattle.sia_events.proofs.Shared.TransactionDecisions.{place_within}
 
@@ -53,15 +53,7 @@ pub record IsFit (n : ℕ) (Earlier : Event → Type 0) (e : Event) : Type 0 whe
   pub start_there : (start : ℕ) → named_start e ≡ Some start → start ≤ n
 
 pub fit_has_none : (n : ℕ) (Earlier : Event → Type 0) (e : Event) → IsFit n Earlier e → (r : Reason) → ¬ EventHas n Earlier e r
-fit_has_none n Earlier e f BadNumber has = has f.in_range
-fit_has_none n Earlier e f AlreadyEnded (inl c) = f.not_committed c
-fit_has_none n Earlier e f AlreadyEnded (inr a) = f.not_aborted a
-fit_has_none n Earlier e f AlreadyBegun has = f.begins_first has.0 has.1 has.2 has.3
-fit_has_none n Earlier e f EmptyRange has = f.not_empty has
-fit_has_none n Earlier e f BadList has = f.list_good has
-fit_has_none n Earlier e f NotWritten has = has.4 (f.written has.0 has.1 has.2 has.3)
-fit_has_none n Earlier e f BadStart has = let most : has.0 ≤ n = f.start_there has.0 has.1 in let less : n < has.0 = has.2 in omega arith
-fit_has_none n Earlier e f _ has = has
+fit_has_none n Earlier e f r has = grind (arith)
 
 -- a text within the limits is accepted, where no event that it stands for has a reason
 pub accepted_from : (limits : Limits) (text : List ℕ) (h : List Event) → StandsFor text h → length h ≤ limits.events → length text ≤ limits.bytes → ((i : ℕ) (e : Event) → at_place h i ≡ Some e → IsFit (i - 1) (IsBefore h i) e) → IsAccepted limits text

@@ -1,5 +1,5 @@
 -- A transaction has one first event, and one start.
-use Rattle.std.proofs.Common.{◌≡◌, ℕ, ◌+◌, ◌≤◌, List, Option, Some, None, ap, sym, subst, ◌∙◌, arith, rules}
+use Rattle.std.proofs.Common.{◌≡◌, ℕ, ◌+◌, List, Option, Some, None, ap, sym, subst, ◌∙◌, arith}
 use Rattle.std.specs.Prelude.{MatchOption}
 use Rattle.std.proofs.lemmas.Option.{same_Some}
 use Rattle.sia_events.specs.declared.event.Event.{Event}
@@ -14,10 +14,7 @@ one_event h p q e f same a b = same_Some e f (sym a ∙ ap (at_place h) same ∙
 
 -- a transaction has one first event
 pub one_first : (h : List Event) (t p q : ℕ) (e f : Event) → IsFirstEvent h t p e → IsFirstEvent h t q f → (p ≡ q) × (e ≡ f)
-one_first h t p q e f a b =
-    let below : p ≤ q = a.2 q (f, b.0, b.1) in
-    let above : q ≤ p = b.2 p (e, a.0, a.1) in
-    search (rules, one_event)
+one_first h t p q e f a b = grind (arith, a.2 q (f, b.0, b.1), b.2 p (e, a.0, a.1), one_event)
 
 -- a transaction has one start
 pub one_start : (h : List Event) (t s r : ℕ) → StartsAt h t s → StartsAt h t r → s ≡ r
@@ -31,6 +28,4 @@ one_start h t s r a b =
 
 -- what starts before every event sees no commit
 pub none_seen_from_zero : (h : List Event) (t u : ℕ) → StartsAt h t 0 → ¬ Sees h t u
-none_seen_from_zero h t u start sees =
-    let zero : sees.0 ≡ 0 = one_start h t sees.0 0 sees.2 start in
-    search (rules, place_within)
+none_seen_from_zero h t u start sees = grind (arith, one_start h t sees.0 0 sees.2 start, place_within)

@@ -9,12 +9,12 @@ use Rattle.sia_events.specs.declared.event.Event.TheVariants.{Write, Commit, Abo
 use Rattle.sia_events.specs.Places.{at_place}
 use Rattle.sia_events.specs.Events.{actor, named_start}
 use Rattle.sia_events.specs.Transactions.{ActsAt, HasEvent, IsFirstEvent, StartsAt, IsCommitted, IsAborted, IsOpen, WritesAt, Wrote, WroteBefore}
-use Rattle.sia_events.proofs.Shared.Decisions.{all_three, denied, Decided, first_below, same_option, same_event}
+use Rattle.sia_events.proofs.Shared.Decisions.{all_three, denied, Decided, first_below, same_option}
+use Rattle.sia_events.proofs.OfLaws.Unspelling.{same_event}
 
 -- an event stands at a place from 1 to the number of events
 pub place_within : {A : Type 0} (h : List A) (p : ℕ) (e : A) → at_place h p ≡ Some e → (0 < p) × (p ≤ length h)
-place_within h zero e at = cc
-place_within h (suc i) e at = (omega arith, slice_get_within h i e at)
+place_within h p e at = grind (arith, slice_get_within)
 
 -- whether a given event stands at a place
 pub at_or_not : (h : List Event) (p : ℕ) (e : Event) → Decided (at_place h p ≡ Some e)

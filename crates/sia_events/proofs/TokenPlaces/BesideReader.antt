@@ -28,8 +28,7 @@ cut_unbroken : (text closed rest : List ℕ) → IsCutAtLastSeparator text close
 cut_unbroken text closed rest cut = recursion_from_All (λ c. is_separator c ≡ false) rest cut.rest_goes_on
 
 at_most_one : (w : List ℕ) → length (as_token w) ≤ 1
-at_most_one [] = omega arith
-at_most_one (c ∷ cs) = omega arith
+at_most_one w = grind (arith)
 
 -- a text of which no token is refused has few tokens
 few_judged : (limits : Limits) → AreWithin limits greatest → (text closed rest : List ℕ) → IsCutAtLastSeparator text closed rest → NoReason limits (tokens closed) → length (tokens text) ≤ 500000001
@@ -73,26 +72,13 @@ module _ (limits : Limits) (text piece closed rest further left : List ℕ) (old
 
 module _ (text piece : List ℕ) (last : ℕ) (old new : Located) (p : PassesPiece old new piece piece last) (short : length (text ++ piece) ≤ 17179869184) where
   few_stopped : StopsBehind new (text ++ piece) last → last ≤ length (tokens (text ++ piece)) + 1
-  few_stopped s =
-      let a = s.ended.2.at in
-      let number = a.number_is in
-      let is = s.number_is in
-      let after = s.ended.2.token ++ a.rest in
-      let whole = ap (λ t. length (tokens t)) a.whole ∙ ap length (tokens-append a.front after a.front_ends) in
-      omega (arith, length-append (tokens a.front) (tokens after))
+  few_stopped s = grind (arith, tokens-append, length-append)
 
   fed_none : last ≡ 4294967295 → length (tokens text) ≤ 500000001 → length (tokens (text ++ piece)) ≤ 500000001 → Follows old text → Follows new (text ++ piece)
-  fed_none is few few_after f =
-      let number = f.number_is in
-      elim (p.goes text short f (omega arith) (omega arith)) [
-        | inl h ↦ h.0
-        | inr s ↦ absurd (let most = few_stopped s in omega arith)
-      ]
+  fed_none is few few_after f = grind (arith, few_stopped)
 
   fed_kept : (n : ℕ) → last ≡ n → StopsBehind old text n → StopsBehind new (text ++ piece) n
-  fed_kept n is s =
-      let number = s.number_is in
-      stops_more old new text piece n (p.stays s.closed (omega arith)) number s.ended
+  fed_kept n is s = grind (arith, stops_more old new text piece n (p.stays s.closed (omega arith)) s.number_is s.ended)
 
   -- the last token that is closed is the refused one, where none began after it
   stops_there : (n : ℕ) (closed rest : List ℕ) → IsCutAtLastSeparator (text ++ piece) closed rest → 0 < n → n ≤ length (tokens closed) → Follows new (text ++ piece) → new.number ≤ n → StopsBehind new (text ++ piece) n

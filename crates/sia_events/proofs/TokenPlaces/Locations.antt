@@ -14,46 +14,25 @@ use Rattle.sia_events.proofs.JudgedTexts.Tokens.{IsClosed, tokens-append}
 -- ---- one more byte
 
 lines_more : (front : List ℕ) (c : ℕ) (b : Bool) → is_line_feed c ≡ b → count_by is_line_feed (front ++ c ∷ []) ≡ count_by is_line_feed front + cond b 1 0
-lines_more front c b e =
-    let more = sum_by-append (λ x. cond (is_line_feed x) 1 0) front (c ∷ []) in
-    let one : count_by is_line_feed (c ∷ []) ≡ 0 + cond b 1 0 = ap (λ t. 0 + cond t 1 0) e in
-    omega arith
+lines_more front c b e = grind (arith, sum_by-append)
 
 columns_more : (front : List ℕ) (c : ℕ) (b : Bool) → is_line_feed c ≡ b → position_or_len is_line_feed (reverse (front ++ c ∷ [])) ≡ cond (not b) (1 + position_or_len is_line_feed (reverse front)) 0
 columns_more front c b e = ap (position_or_len is_line_feed) (reverse-append front (c ∷ [])) ∙ ap (λ t. cond (not t) (1 + position_or_len is_line_feed (reverse front)) 0) e
 
 -- behind a line feed the next line begins
 pub place_feed : (front : List ℕ) (line column c next : ℕ) → length front < 17179869184 → c ≡ 10 → next ≡ min (line + 1) 18446744073709551615 → IsPlaceAfter front line column → IsPlaceAfter (front ++ c ∷ []) next 1
-place_feed front line column c next few is counts p =
-    let e : is_line_feed c ≡ true = ap is_line_feed is in
-    let a = lines_more front c true e in
-    let b = columns_more front c true e in
-    let before = p.line_is in
-    let most = count_by-le-length is_line_feed front in
-    record { line_is = omega arith; column_is = omega arith }
+place_feed front line column c next few is counts p = grind (arith, lines_more, columns_more, count_by-le-length)
 
 -- any other byte takes one column
 byte_on : (front : List ℕ) (line column c : ℕ) → is_line_feed c ≡ false → IsPlaceAfter front line column → IsPlaceAfter (front ++ c ∷ []) line (column + 1)
-byte_on front line column c e p =
-    let a = lines_more front c false e in
-    let b = columns_more front c false e in
-    let line_was = p.line_is in
-    let column_was = p.column_is in
-    record { line_is = omega arith; column_is = omega arith }
+byte_on front line column c e p = grind (arith, lines_more, columns_more)
 
 -- columns are no more than bytes
 pub few_columns : (front : List ℕ) (line column : ℕ) → IsPlaceAfter front line column → column ≤ length front + 1
-few_columns front line column p =
-    let column_was = p.column_is in
-    let most = prefix_len-le-length (λ x. not (is_line_feed x)) (reverse front) in
-    let same = length-reverse front in
-    omega arith
+few_columns front line column p = grind (arith, prefix_len-le-length, length-reverse)
 
 pub place_on : (front : List ℕ) (line column c next : ℕ) → length front < 17179869184 → c ≢ 10 → next ≡ min (column + 1) 18446744073709551615 → IsPlaceAfter front line column → IsPlaceAfter (front ++ c ∷ []) line next
-place_on front line column c next few other counts p =
-    let most = few_columns front line column p in
-    let next_is : column + 1 ≡ next = omega arith in
-    subst (IsPlaceAfter (front ++ c ∷ []) line) next_is (byte_on front line column c (grind (arith, nat_tests)) p)
+place_on front line column c next few other counts p = grind (arith, few_columns front line column p, byte_on front line column c (grind (arith, nat_tests)) p)
 
 no_feed : (c : ℕ) → is_separator c ≡ false → is_line_feed c ≡ false
 no_feed c e = grind (arith, nat_tests)
@@ -86,8 +65,7 @@ is_ended-append (x ∷ y ∷ front) c cs = is_ended-append (y ∷ front) c cs
 is_ended-append _ c cs = refl
 
 closed_ended : (closed : List ℕ) → IsClosed closed → is_ended closed ≡ true
-closed_ended closed (inl none) = ap is_ended none
-closed_ended closed (inr h) = ap is_ended h.2 ∙ is_ended-append h.0 h.1 [] ∙ h.3
+closed_ended closed h = grind (arith, is_ended-append)
 
 unbroken_unended : (c : ℕ) (cs : List ℕ) → HasNoSeparator (c ∷ cs) → is_ended (c ∷ cs) ≡ false
 unbroken_unended c [] t = t.0
@@ -117,35 +95,23 @@ one_cut closed rest front token whole a b t u = elim (both_ways closed rest fron
 ]
 
 length_onto : (c : ℕ) (ts : List (List ℕ)) → 0 < length (onto_first c ts)
-length_onto c [] = omega arith
-length_onto c (t ∷ ts) = omega arith
+length_onto c ts = grind (arith)
 
 -- bytes that begin with a token have one
 pub tokens_some : (c : ℕ) (cs : List ℕ) → is_separator c ≡ false → 0 < length (tokens (c ∷ cs))
-tokens_some c cs e = by_next (goes_on cs) refl
-  where
-    by_next : (b : Bool) → goes_on cs ≡ b → 0 < length (tokens (c ∷ cs))
-    by_next true p = let is = ap length (goes_on_token c cs (tokens cs) e p) in let some = length_onto c (tokens cs) in omega arith
-    by_next false p = let is = ap length (ends_token c cs (tokens cs) e p) in omega arith
+tokens_some c cs e = grind (arith, goes_on_token, length_onto, ends_token)
 
 -- the number of a token tells what is before it
 no_longer : (front token rest mid after : List ℕ) → IsClosed front → token ≢ [] → HasNoSeparator token → token ++ rest ≡ mid ++ after → length (tokens (front ++ mid)) ≡ length (tokens front) → mid ≡ []
 no_longer front token rest [] after ends some t whole same = refl
 no_longer front [] rest (m ∷ ms) after ends some t whole same = absurd (some refl)
-no_longer front (x ∷ xs) rest (m ∷ ms) after ends some t whole same =
-    let first : x ≡ m = cc in
-    let more = tokens_some m ms (subst (λ c. is_separator c ≡ false) first t.0) in
-    let split = ap length (tokens-append front (m ∷ ms) ends) ∙ length-append (tokens front) (tokens (m ∷ ms)) in
-    absurd (omega arith)
+no_longer front (x ∷ xs) rest (m ∷ ms) after ends some t whole same = grind (arith, tokens_some, tokens-append, length-append)
 
 one_token : (t u rest after : List ℕ) → HasNoSeparator t → HasNoSeparator u → goes_on rest ≡ false → goes_on after ≡ false → t ++ rest ≡ u ++ after → t ≡ u
 one_token [] [] rest after p q a b e = refl
 one_token [] (y ∷ u) rest after p q a b e = let wrong : true ≡ false = sym (goes_on_unbroken y (u ++ after) q.0) ∙ ap goes_on (sym e) ∙ a in cc
 one_token (x ∷ t) [] rest after p q a b e = let wrong : true ≡ false = sym (goes_on_unbroken x (t ++ rest) p.0) ∙ ap goes_on e ∙ b in cc
-one_token (x ∷ t) (y ∷ u) rest after p q a b e =
-    let first : x ≡ y = cc in
-    let more = one_token t u rest after p.1 q.1 a b (let tail : t ++ rest ≡ u ++ after = cc in tail) in
-    cc
+one_token (x ∷ t) (y ∷ u) rest after p q a b e = grind (arith, one_token t u rest after p.1 q.1 a b (let tail : t ++ rest ≡ u ++ after = cc in tail))
 
 unbroken : (text : List ℕ) (n line column : ℕ) (t : List ℕ) → (a : IsTokenAt text n line column t) → HasNoSeparator t
 unbroken text n line column t a = recursion_from_All (λ c. is_separator c ≡ false) t a.unbroken

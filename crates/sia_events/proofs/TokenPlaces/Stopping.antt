@@ -53,12 +53,6 @@ reaches_more l now text c last p few some (inl (f, most)) = by_tests l.is_open (
       ]
     ]
 
-pub passes_none : (old : Located) (piece : List ℕ) (last : ℕ) → PassesPiece old old piece [] last
-passes_none old piece last = record {
-  goes = λ text short f most some. inl (subst (Follows old) (sym (append-nil text)) f, most);
-  stays = λ closed most. record { closed = closed; number = refl; place = refl; token = refl };
-}
-
 pub passes_more : (old l now : Located) (piece : List ℕ) (i c last : ℕ) → i < length piece → c ≡ get_or piece i 0 → PassesPiece old l piece (take i piece) last → PassesByte l now c last → PassesPiece old now piece (take (i + 1) piece) last
 passes_more old l now piece i c last below is p b =
     let more : take (i + 1) piece ≡ take i piece ++ c ∷ [] = take_more piece i 0 below ∙ ap (λ x. take i piece ++ x ∷ []) (sym is) in
@@ -67,11 +61,7 @@ passes_more old l now piece i c last below is p b =
           let few : length (text ++ take i piece) < 17179869184 = omega (arith, length-append text piece, length-append text (take i piece), length-take i piece) in
           let next = reaches_more l now (text ++ take i piece) c last b few some (p.goes text short f most some) in
           subst (λ t. Reaches now t last) (append_assoc text (take i piece) (c ∷ []) ∙ ap (λ (t : List ℕ). text ++ t) (sym more)) next;
-      stays = λ closed most.
-          let kept = p.stays closed most in
-          let number = kept.number in
-          let next = b.stopped kept.closed (omega arith) in
-          record { closed = next.closed; number = next.number ∙ kept.number; place = next.place ∙ kept.place; token = next.token ∙ kept.token };
+      stays = grind (arith);
     }
 
 -- what passing the rest of a token tells

@@ -1,5 +1,5 @@
 -- The digits that bytes begin with.
-use Rattle.std.proofs.Common.{◌≡◌, ℕ, zero, ◌<◌, ◌≤◌, ◌^◌, true, false, List, length, get_or, Some, None, refl, arith, nat_lt}
+use Rattle.std.proofs.Common.{◌≡◌, ℕ, ◌<◌, ◌≤◌, ◌^◌, true, false, List, length, get_or, Some, None, refl, arith, nat_lt}
 use Rattle.std.proofs.lemmas.List.Sums.{prefix_len_is}
 use Rattle.std.proofs.lemmas.Bool.Decides.{nat_tests}
 use Rattle.std.proofs.Math.Nat.{pow-le-pow_right}
@@ -17,8 +17,4 @@ narrow_great n h = let e : nat_lt n (2 ^ 64) ≡ false = grind (arith, nat_tests
 
 -- a number of at most 18 digits
 pub few_digits : (n len : ℕ) → n < 10 ^ len → len < 19 → n < 1000000000000000000
-few_digits n len small few =
-    let some : zero < 10 = omega arith in
-    let most : 10 ^ len ≤ 10 ^ 18 = pow-le-pow_right {n = 10} some {i = len} {j = 18} (omega arith) in
-    let is : 10 ^ 18 ≡ 1000000000000000000 = refl in
-    omega arith
+few_digits n len small few = grind (arith, pow-le-pow_right)

@@ -1,65 +1,44 @@
 -- Reading listed keys one after the other, as a loop does.
-use Rattle.std.proofs.Common.{◌≡◌, ℕ, zero, suc, ◌+◌, ◌<◌, ◌≤◌, true, false, List, [], length, take, drop, Option, Some, None, Result, Ok, Err, refl, sym, ap, ◌∙◌, append_assoc, arith}
-use Rattle.std.specs.Prelude.{Bool, ◌==◌, nat_eq, ◌∷◌, ◌++◌}
+use Rattle.std.proofs.Common.{◌≡◌, ℕ, zero, suc, ◌+◌, ◌<◌, ◌≤◌, true, false, List, [], length, take, drop, Option, Some, None, Result, Ok, refl, sym, ◌∙◌, append_assoc, arith}
+use Rattle.std.specs.Prelude.{Bool, nat_eq, ◌∷◌, ◌++◌}
 use Rattle.std.specs.Cmp.Lexicographic.{pointwise}
 use Rattle.std.proofs.Math.Bool.{and-true}
-use Rattle.std.proofs.lemmas.Bool.Decides.{nat_tests}
 use Rattle.sia_events.specs.declared.fault.Reason.{Reason}
 use Rattle.sia_events.specs.declared.fault.Refusal.{Refusal}
-use Rattle.sia_events.specs.declared.fault.Refusal.TheVariants as refusals
 use Rattle.sia_events.specs.Parsing.{◌>>=◌, Fails, kept, joined, one_pair, begins_with, pair_at, pairs_within, pairs_at, list_at}
 
 abbrev pub with_front : Option (List (ℕ × ℕ)) → Result (Option (List (ℕ × ℕ)) × List ℕ) Reason → Result (Option (List (ℕ × ℕ)) × List ℕ) Reason
 with_front front read = read >>= λ x. Ok (joined front x.0, x.1)
 
 joined-assoc : (front one others : Option (List (ℕ × ℕ))) → joined front (joined one others) ≡ joined (joined front one) others
-joined-assoc None one others = refl
-joined-assoc (Some ps) None others = refl
-joined-assoc (Some ps) (Some qs) None = refl
-joined-assoc (Some ps) (Some qs) (Some rs) = ap Some (sym (append_assoc ps qs rs))
+joined-assoc front one others = grind (arith, append_assoc)
 
 with_front-with_front : (front one : Option (List (ℕ × ℕ))) (read : Result (Option (List (ℕ × ℕ)) × List ℕ) Reason) → with_front front (with_front one read) ≡ with_front (joined front one) read
-with_front-with_front front one (Ok x) = ap (λ ps. Ok (ps, x.1)) (joined-assoc front one x.0)
-with_front-with_front front one (Err r) = refl
+with_front-with_front front one read = grind (arith, joined-assoc)
 
 -- a pair is pushed
 pub pair_joins : (old : Bool) (pairs : List (ℕ × ℕ)) {all : List (ℕ × ℕ)} (p : ℕ × ℕ) → all ≡ pairs ++ p ∷ [] → kept old all ≡ joined (kept old pairs) (one_pair (Some p))
-pair_joins false pairs p is = refl
-pair_joins true pairs p is = ap Some is
+pair_joins old pairs p is = grind (arith)
 
 -- a pair counts for nothing
 pub none_joins : (old : Bool) (pairs : List (ℕ × ℕ)) → None ≡ joined (kept old pairs) (one_pair None)
-none_joins false pairs = refl
-none_joins true pairs = refl
+none_joins old pairs = grind (arith)
 
 pub starts : (bytes : List ℕ) → with_front (Some []) (pairs_within (length bytes + 1) bytes) ≡ pairs_at bytes
 unfolding pairs_at
-starts bytes = nothing_before (pairs_within (length bytes + 1) bytes)
-  where
-    nothing_before : (read : Result (Option (List (ℕ × ℕ)) × List ℕ) Reason) → with_front (Some []) read ≡ read
-    nothing_before (Ok (None, rest)) = refl
-    nothing_before _ = refl
+starts bytes = grind (arith)
 
 -- whether a byte is ahead, as a search for it answers
 pub ahead : (b : ℕ) (bytes : List ℕ) → pointwise nat_eq (take 1 bytes) (b ∷ []) ≡ begins_with b bytes
-ahead b [] = refl
-ahead b (c ∷ rest) = and-true (c == b)
+ahead b bytes = grind (arith, and-true)
 
 -- whether it is ahead, as a text is asked for it
 pub starts_so : (b : ℕ) (bytes : List ℕ) → pointwise nat_eq (b ∷ []) (take 1 bytes) ≡ begins_with b bytes
-starts_so b [] = refl
-starts_so b (c ∷ rest) = and-true (b == c) ∙ turned (b == c) (c == b) refl refl
-  where
-    turned : (p q : Bool) → nat_eq b c ≡ p → nat_eq c b ≡ q → p ≡ q
-    turned true true e f = refl
-    turned false false e f = refl
-    turned true false e f = absurd (grind (arith, nat_tests))
-    turned false true e f = absurd (grind (arith, nat_tests))
+starts_so b bytes = grind (arith, and-true)
 
 -- a byte that is ahead can be passed
 pub shortened : (b : ℕ) (bytes : List ℕ) → begins_with b bytes ≡ true → length (drop 1 bytes) < length bytes
-shortened b [] begun = absurd cc
-shortened b (c ∷ rest) begun = let less : length rest < suc (length rest) = omega arith in less
+shortened b bytes begun = grind (arith)
 
 pub list_begun : (bytes rest : List ℕ) → begins_with 59 bytes ≡ true → rest ≡ drop 1 bytes → pairs_at rest ≡ list_at bytes
 unfolding list_at
@@ -83,16 +62,9 @@ goes_on (suc more) front bytes pair after total low shorter shortened h comma so
 pub is_done : (more : ℕ) (front : Option (List (ℕ × ℕ))) (bytes : List ℕ) (pair : Option (ℕ × ℕ)) (after : List ℕ) (total : Result (Option (List (ℕ × ℕ)) × List ℕ) Reason) → length bytes < more
     → pair_at bytes ≡ Ok (pair, after) → begins_with 44 after ≡ false → with_front front (pairs_within more bytes) ≡ total → total ≡ Ok (joined front (one_pair pair), after)
 unfolding pairs_within
-is_done zero front bytes pair after total low h comma so_far = absurd (omega arith)
-is_done (suc more) front bytes pair after total low h comma so_far =
-    let one : with_front front (pairs_within (suc more) bytes) ≡ Ok (joined front (one_pair pair), after) = rw (h, comma) refl in
-    sym so_far ∙ one
+is_done more front bytes pair after total low h comma so_far = grind (arith)
 
 -- where a pair has no form
 pub fails : (e : Refusal) (more : ℕ) (front : Option (List (ℕ × ℕ))) (bytes : List ℕ) (total : Result (Option (List (ℕ × ℕ)) × List ℕ) Reason) → length bytes < more → Fails e (pair_at bytes) → with_front front (pairs_within more bytes) ≡ total → Fails e total
 unfolding pairs_within
-fails refusals.NoMemory more front bytes total low h so_far = tt
-fails (refusals.Bad r) zero front bytes total low h so_far = absurd (omega arith)
-fails (refusals.Bad r) (suc more) front bytes total low h so_far =
-    let one : with_front front (pairs_within (suc more) bytes) ≡ Err r = rw h refl in
-    sym so_far ∙ one
+fails e more front bytes total low h so_far = grind (arith)

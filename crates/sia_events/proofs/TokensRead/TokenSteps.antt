@@ -5,14 +5,12 @@ use Rattle.sia_events.specs.declared.event.Event.{Event}
 use Rattle.sia_events.specs.declared.fault.Reason.{Reason}
 use Rattle.sia_events.specs.declared.fault.Reason.TheVariants.{BadEvent}
 use Rattle.sia_events.specs.declared.fault.Refusal.{Refusal}
-use Rattle.sia_events.specs.declared.fault.Refusal.TheVariants as refusals
 use Rattle.sia_events.proofs.JudgedTexts.Judged.{to_end}
 use Rattle.sia_events.specs.Parsing.{◌>>=◌, Fails, Gives, after_byte, item_at, number_at, begin_at, read_at, write_at, commit_at, abort_at, event_at}
 
 -- what fails first, fails
 pub fails_first : {A B : Type 0} (e : Refusal) (read : Result A Reason) (next : A → Result B Reason) → Fails e read → Fails e (read >>= next)
-fails_first refusals.NoMemory read next fails = tt
-fails_first (refusals.Bad reason) read next fails = rw fails refl
+fails_first e read next fails = grind (arith)
 
 abbrev pub by_letter : ℕ → Option ℕ → List ℕ → Result Event Reason
 by_letter letter txn rest = if letter == 98 then begin_at txn rest

@@ -29,9 +29,7 @@ numeral_digit n small = enough (n + 1) (suc n) n (omega arith) (omega arith) ∙
 
 pub numeral_step : (n : ℕ) → 10 ≤ n → numeral n ≡ numeral (n / 10) ++ (48 + n % 10) ∷ []
 unfolding numeral
-numeral_step n big =
-    enough (n + 1) (suc n) n (omega arith) (omega arith) ∙ more_digits n n big
-    ∙ ap (λ (ds : List ℕ). ds ++ (48 + n % 10) ∷ []) (enough n (n / 10 + 1) (n / 10) (omega arith) (omega arith))
+numeral_step n big = grind (arith, enough, more_digits)
 
 -- a number of 64 bits is written so
 pub numeral_decimal : (n : ℕ) → n < 2 ^ 64 → numeral n ≡ decimal n

@@ -63,35 +63,16 @@ module _ (listed : List (ℕ × ℕ)) (up : IsStrictlyIncreasing (map (λ pair. 
     kept_none lacks = none_kept (λ pair. pair.0 == k) listed (λ i d below. ne_eqb (get_or listed i d).0 k (λ same. lacks (get_or listed i d).1 (listed_at i d below same)))
 
     pub kept_one : (v : ℕ) → Contains listed (k, v) → filter (λ pair. pair.0 == k) listed ≡ (k, v) ∷ []
-    kept_one v c = one_kept (λ pair. pair.0 == k) listed c.0 (k, v) c.1 (eq-eqb (get_or listed c.0 (k, v)).0 k key) others ∙ ap (λ (p : ℕ × ℕ). p ∷ []) c.2
-      where
-        key : (get_or listed c.0 (k, v)).0 ≡ k
-        key = ap (λ (p : ℕ × ℕ). p.0) c.2
-
-        others : (j : ℕ) (e : ℕ × ℕ) → j < length listed → j ≢ c.0 → ((get_or listed j e).0 == k) ≡ false
-        others j e below differ = ne_eqb (get_or listed j e).0 k (λ same. elim (cases_order j c.0) [
-          | inl at ↦ differ at
-          | inr apart ↦ elim apart [
-            | inl less ↦ omega (arith, later j c.0 e (k, v) less c.1, key)
-            | inr more ↦ omega (arith, later c.0 j (k, v) e more below, key)
-          ]
-        ])
+    kept_one v c = grind (arith, one_kept, eq-eqb, ne_eqb, later)
 
 -- pairs by number, and the place before which their keys are below k, and from which they aren't
 module _ (f : ℕ → ℕ × ℕ) (pairs : List ℕ) (listed : List (ℕ × ℕ)) (is : map f pairs ≡ listed) (k at : ℕ) (under : (i d : ℕ) → i < at → (f (get_or pairs i d)).0 < k) where
   -- the number of what is listed
   numbered : (v : ℕ) (c : Contains listed (k, v)) → (c.0 < length pairs) × (f (get_or pairs c.0 0) ≡ (k, v))
-  numbered v c =
-      let long : length listed ≡ length pairs = ap length (sym is) ∙ length-map pairs f in
-      let below : c.0 < length pairs = let b = c.1 in omega arith in
-      (below, sym (get_or-map f pairs c.0 0 (k, v) below) ∙ ap (λ l. get_or l c.0 (k, v)) is ∙ c.2)
+  numbered v c = grind (arith, length-map, get_or-map)
 
   pub none_behind : length pairs ≤ at → (v : ℕ) → ¬ Contains listed (k, v)
-  none_behind all v c =
-      let w = numbered v c in
-      let less = under c.0 0 (let b = w.0 in omega arith) in
-      let same = ap (λ (q : ℕ × ℕ). q.0) w.1 in
-      omega arith
+  none_behind all v c = grind (arith, numbered v c)
 
   pub none_there : AllPairs (λ p q. (f p).0 < (f q).0) pairs → at < length pairs → (q : ℕ × ℕ) → q ≡ f (get_or pairs at 0) → k ≤ (f (get_or pairs at 0)).0 → q.0 ≢ k → (v : ℕ) → ¬ Contains listed (k, v)
   none_there ascend room q is_there above other v c =
@@ -99,8 +80,5 @@ module _ (f : ℕ → ℕ × ℕ) (pairs : List ℕ) (listed : List (ℕ × ℕ)
       let same = ap (λ (q : ℕ × ℕ). q.0) w.1 in
       elim (cases_order c.0 at) [
         | inl is_at ↦ other (ap (λ (q : ℕ × ℕ). q.0) is_there ∙ ap (λ i. (f (get_or pairs i 0)).0) (sym is_at) ∙ same)
-        | inr apart ↦ elim apart [
-          | inl before ↦ let less = under c.0 0 before in omega arith
-          | inr after ↦ let more = ascend at c.0 0 after w.0 in omega arith
-        ]
+        | inr apart ↦ grind (arith)
       ]

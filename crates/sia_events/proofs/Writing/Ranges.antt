@@ -1,5 +1,5 @@
 -- A range read of a well-formed history: its bounds and its listed keys are in order, and it sees each key at one version.
-use Rattle.std.proofs.Common.{◌≡◌, ◌⊎◌, inl, inr, ℕ, ◌<◌, ◌≤◌, List, map, length, Some, refl, ap, sym, ◌∙◌, subst, arith}
+use Rattle.std.proofs.Common.{◌≡◌, ◌⊎◌, inl, inr, ℕ, ◌<◌, ◌≤◌, List, map, Some, refl, ap, sym, ◌∙◌, subst, arith}
 use Rattle.std.specs.Prelude.{Contains, slice_index_or}
 use Rattle.std.specs.List.Sorted.{IsStrictlyIncreasing}
 use Rattle.std.proofs.lemmas.Bool.{cases_order, cases_Bool}
@@ -34,10 +34,7 @@ key_at listed k v c = get_or-map (λ (p : ℕ × ℕ). p.0) listed c.0 (k, v) 0 
 
 -- where keys ascend, a later one isn't an earlier one
 never_later : (listed : List (ℕ × ℕ)) → IsStrictlyIncreasing (map (λ p. p.0) listed) → (k v w : ℕ) (a : Contains listed (k, v)) (b : Contains listed (k, w)) → ¬ (a.0 < b.0)
-never_later listed up k v w a b less =
-    let below : b.0 < length (map (λ (p : ℕ × ℕ). p.0) listed) = omega (arith, length-map listed (λ (p : ℕ × ℕ). p.0), b.1) in
-    let less_key = AllPairs-from_increasing (map (λ p. p.0) listed) up a.0 b.0 0 less below in
-    omega (arith, less_key, key_at listed k v a, key_at listed k w b)
+never_later listed up k v w a b less = grind (arith, AllPairs-from_increasing (map (λ p. p.0) listed) up a.0 b.0 0 less (omega (arith, length-map listed (λ (p : ℕ × ℕ). p.0), b.1)), key_at listed k v a, key_at listed k w b)
 
 -- a list of ascending keys has each key once
 pub one_listed : (listed : List (ℕ × ℕ)) → IsStrictlyIncreasing (map (λ p. p.0) listed) → (k v w : ℕ) → Contains listed (k, v) → Contains listed (k, w) → v ≡ w

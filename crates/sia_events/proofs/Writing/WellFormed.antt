@@ -6,23 +6,22 @@ use Rattle.std.proofs.lemmas.Option.{slice_get-map}
 use Rattle.std.specs.Option.{option_map}
 use Rattle.sia_events.specs.Limits.{Limits, greatest}
 use Rattle.sia_events.specs.declared.event.Event.{Event}
-use Rattle.sia_events.specs.declared.event.Event.TheVariants.{Write, Commit, Abort}
+use Rattle.sia_events.specs.declared.event.Event.TheVariants.{Write, Commit}
 use Rattle.sia_events.specs.declared.fault.Reason.{Reason}
-use Rattle.sia_events.specs.declared.fault.Reason.TheVariants.{TooManyEvents, BadEvent, BadNumber, AlreadyEnded, AlreadyBegun, NotWritten}
+use Rattle.sia_events.specs.declared.fault.Reason.TheVariants.{TooManyEvents, BadNumber, AlreadyEnded, NotWritten}
 use Rattle.sia_events.specs.declared.fault.TextFault.TheVariants.{TextTooLong, Refused}
 use Rattle.sia_events.specs.Places.{at_place}
 use Rattle.sia_events.specs.Events.{actor, Saw}
 use Rattle.sia_events.specs.Text.{spell, tokens, canonical}
 use Rattle.sia_events.specs.Refusals.{IsInRange, reason_number, HasReason, HasReasonIn, TokenHas, EventHas, IsEarlier, IsFirstFaultIn, IsAccepted, IsAcceptedIn, AnyForm, IsWellFormed}
-use Rattle.sia_events.proofs.Shared.Spelling.{spell_injective}
+use Rattle.sia_events.proofs.OfLaws.Unspelling.{spell_injective}
 use Rattle.sia_events.proofs.Shared.Canonical.{canonical_stands}
 use Rattle.sia_events.proofs.Shared.Decisions.{Decided, at_most}
 use Rattle.sia_events.proofs.Shared.TransactionDecisions.{wrote_before_or_not}
 use Rattle.sia_events.proofs.Shared.EventCases.{ranges_cases}
 
 numbers_below : (r : Reason) → reason_number r < 11
-numbers_below TooManyEvents = omega arith
-numbers_below _ = omega arith
+numbers_below r = grind (arith)
 
 -- where no first fault is, nothing has a reason
 module _ (limits : Limits) (Form : Event → Type 0) (ts : List (List ℕ)) (none : (i : ℕ) (r : Reason) → ¬ IsFirstFaultIn limits Form ts i r) where
@@ -63,8 +62,7 @@ abbrev pub IsBefore : List Event → ℕ → Event → Type 0
 IsBefore h i f = (j : ℕ) × (j < i) × (at_place h j ≡ Some f)
 
 pub at_place-map : (h : List Event) (j : ℕ) → at_place (map spell h) j ≡ option_map spell (at_place h j)
-at_place-map h zero = refl
-at_place-map h (suc j) = slice_get-map spell h j
+at_place-map h j = grind (arith, slice_get-map)
 
 spelled : (o : Option Event) (f : Event) → option_map spell o ≡ Some (spell f) → o ≡ Some f
 spelled None f e = cc
@@ -78,18 +76,10 @@ before_earlier h i f b = (b.0, b.1, at_place-map h b.0 ∙ ap (option_map spell)
 
 -- the reasons of an event go by what is before it
 pub moved : (n : ℕ) (Earlier Before : Event → Type 0) → ((f : Event) → Before f → Earlier f) → ((f : Event) → Earlier f → Before f) → (e : Event) (r : Reason) → EventHas n Before e r → EventHas n Earlier e r
-moved n Earlier Before to from e TooManyEvents h = absurd h
-moved n Earlier Before to from e BadEvent h = absurd h
-moved n Earlier Before to from e AlreadyEnded (inl c) = inl (to (Commit (actor e)) c)
-moved n Earlier Before to from e AlreadyEnded (inr a) = inr (to (Abort (actor e)) a)
-moved n Earlier Before to from e AlreadyBegun h = (h.0, h.1, to h.1 h.2, h.3)
-moved n Earlier Before to from e NotWritten h = (h.0, h.1, h.2, h.3, λ w. h.4 (from (Write h.1 h.0) w))
-moved n Earlier Before to from e _ h = h
+moved n Earlier Before to from e r h = grind (arith)
 
 pub token_has : (limits : Limits) (ts : List (List ℕ)) (i : ℕ) (e : Event) (r : Reason) → EventHas (i - 1) (IsEarlier ts i) e r → TokenHas limits AnyForm ts i (spell e) r
-token_has limits ts i e TooManyEvents h = absurd h
-token_has limits ts i e BadEvent h = absurd h
-token_has limits ts i e _ h = (e, tt, refl, h)
+token_has limits ts i e r h = grind (arith)
 
 -- no token of a well-formed history's text has a reason
 spelled_none : (h : List Event) → IsWellFormed h → (i : ℕ) (r : Reason) → ¬ HasReason greatest (map spell h) i r
@@ -100,13 +90,7 @@ place_spelled h i e at = at_place-map h i ∙ ap (option_map spell) at
 
 -- no event of a well-formed history has a reason, by the events before it
 pub event_has_none : (h : List Event) → IsWellFormed h → (i : ℕ) (e : Event) → at_place h i ≡ Some e → (r : Reason) → ¬ EventHas (i - 1) (IsBefore h i) e r
-event_has_none h wf i e at r has =
-    spelled_none h wf i r (
-      spell e,
-      place_spelled h i e at,
-      token_has greatest (map spell h) i e r
-          (moved (i - 1) (IsEarlier (map spell h) i) (IsBefore h i) (before_earlier h i) (earlier_before h i) e r has),
-    )
+event_has_none h wf i e at r has = grind (arith, spelled_none h wf i r (spell e, place_spelled h i e at, token_has greatest (map spell h) i e r (moved (i - 1) (IsEarlier (map spell h) i) (IsBefore h i) (before_earlier h i) (earlier_before h i) e r has)))
 
 -- an event follows no end of its transaction
 pub nothing_after_end : (h : List Event) → IsWellFormed h → (i j : ℕ) (e : Event) → at_place h i ≡ Some e → at_place h j ≡ Some (Commit (actor e)) → i ≤ j
@@ -114,10 +98,7 @@ nothing_after_end h wf i j e at c = at_most i j (λ less. event_has_none h wf i 
 
 -- a transaction commits once
 pub one_commit : (h : List Event) → IsWellFormed h → (t i j : ℕ) → at_place h i ≡ Some (Commit t) → at_place h j ≡ Some (Commit t) → i ≡ j
-one_commit h wf t i j a b =
-    let p : i ≤ j = nothing_after_end h wf i j (Commit t) a b in
-    let q : j ≤ i = nothing_after_end h wf j i (Commit t) b a in
-    omega arith
+one_commit h wf t i j a b = grind (arith, nothing_after_end h wf i j (Commit t) a b, nothing_after_end h wf j i (Commit t) b a)
 
 pub at_index : {A : Type 0} (h : List A) (i : ℕ) → i < length h → (e : A) × (slice_get h i ≡ Some e)
 at_index [] i below = absurd (omega arith)
@@ -132,9 +113,7 @@ few_fine limits ts none = at_most (length ts) limits.events (λ more.
 
 -- a well-formed history has at most 500,000,000 events
 pub few_events : (h : List Event) → IsWellFormed h → length h ≤ 500000000
-few_events h wf =
-    let few : length (map spell h) ≤ 500000000 = few_fine greatest (map spell h) (spelled_none h wf) in
-    omega (arith, length-map h spell)
+few_events h wf = grind (arith, few_fine greatest (map spell h) (spelled_none h wf), length-map h spell)
 
 -- whether a transaction wrote a key before a place can be told
 pub before_or_not : (h : List Event) (i v k : ℕ) → Decided (IsBefore h i (Write v k))

@@ -1,7 +1,7 @@
 -- A text that is written from left to right, one more part at its end.
-use Rattle.std.proofs.Common.{◌≡◌, ◌≢◌, ℕ, suc, ◌<◌, List, [], ◌∷◌, ◌++◌, map, length, refl, ap, sym, ◌∙◌, append-nil, append_assoc, arith}
+use Rattle.std.proofs.Common.{◌≡◌, ◌≢◌, ℕ, ◌<◌, List, [], ◌∷◌, ◌++◌, map, length, refl, ap, sym, ◌∙◌, append-nil, append_assoc, arith}
 use Rattle.std.specs.List.{join_with_byte}
-use Rattle.std.specs.Prelude.{Err, Ok, OnOk, Result, if◌then◌else◌, is_ok}
+use Rattle.std.specs.Prelude.{OnOk, Result, if◌then◌else◌, is_ok}
 use Rattle.sia_events.specs.declared.event.Event.{Event}
 use Rattle.sia_events.specs.Text.{spell_pair, spell_list, spell, canonical}
 
@@ -22,8 +22,7 @@ canonical_push f es e = ap (λ (xs : List (List ℕ)). join_with_byte 32 (spell 
 
 -- the next listed key, after the byte that comes before it
 pub list_step : (front : List (ℕ × ℕ)) (p : ℕ × ℕ) (b : ℕ) → (length front ≡ 0 → b ≡ 59) → (length front ≢ 0 → b ≡ 44) → spell_list (front ++ p ∷ []) ≡ spell_list front ++ (b ∷ spell_pair p)
-list_step [] p b first later = let is = first refl in ap (λ n. n ∷ spell_pair p) (sym is)
-list_step (q ∷ ps) p b first later = let is = later (λ e. (let some : suc (length ps) ≡ 0 = e in omega arith)) in list_push q ps p ∙ ap (λ n. spell_list (q ∷ ps) ++ (n ∷ spell_pair p)) (sym is)
+list_step front p b first later = grind (arith, list_push)
 
 -- a listed key as it is written, with nothing before and behind its version
 pub pair_put : (o l m k c v : List ℕ) → (((((((o ++ l) ++ m) ++ k) ++ c) ++ []) ++ v) ++ []) ≡ o ++ (l ++ (m ++ ((k ++ c) ++ v)))
@@ -39,5 +38,4 @@ canonical_later (f ∷ es) e some = canonical_push f es e ∙ sym (append_assoc 
 
 -- what is there where the call succeeded
 pub when_ok : {A E X : Type 0} (r : Result A E) (n a b : X) → n ≡ (if is_ok r then a else b) → OnOk r (n ≡ a)
-when_ok (Ok x) n a b e = e
-when_ok (Err e) n a b f = tt
+when_ok r n a b e = grind (arith)

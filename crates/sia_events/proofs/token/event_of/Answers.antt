@@ -1,14 +1,12 @@
 -- What each letter is followed by.
-use Rattle.std.proofs.Common.{refl}
+use Rattle.std.proofs.Common.{refl, arith}
 use Rattle.std.proofs.lemmas.Result.{err_from_is_err_and}
 use Rattle.sia_events.specs.Parsing.{ended, txn_of, commit_at, abort_at}
 use Rattle.sia_events.proofs.TokensRead.TokenSteps.{event_by, number_fails, fails_first}
 use Rattle.sia_events.proofs.token.event_of.Goals as goal
 
 pub returns-in_err-txn : goal.returns-in_err-txn
-returns-in_err-txn c =
-    let p = err_from_is_err_and c.from_residual.result c.from_residual.ensures.1 in
-    rw (p.1, p.2) (number_fails c.in_err-txn.field-0.0 c.args.token.now c.in-len1-up.len_at_least c.in_err-txn.ensures.gives)
+returns-in_err-txn c = grind (arith, err_from_is_err_and, number_fails)
 
 pub returns-in-98 : goal.returns-in-98
 returns-in-98 c = rw (event_by c.args.token.now _ _ c.in-len1-up.len_at_least c.in_ok-txn.ensures.gives, c.in-98.is) (c.begin.ensures _)

@@ -1,48 +1,31 @@
 -- A pair goes on the list, ends it, or has no form.
-use Rattle.std.proofs.Common.{◌≡◌, ◌<◌, ◌≤◌, ◌+◌, ◌-◌, List, Option, Some, None, length, take, drop, ap, sym, ◌∙◌, subst, arith}
+use Rattle.std.proofs.Common.{◌≡◌, ◌<◌, ◌+◌, ◌-◌, Option, Some, None, length, drop, sym, ◌∙◌, subst, arith}
 use Rattle.std.proofs.lemmas.List.{take_rest}
 use Rattle.std.proofs.lemmas.Result.{err_from_is_err_and}
 use Rattle.std.specs.Prelude.{MatchOption}
-use Rattle.sia_events.specs.declared.draft.Mention.{Mention}
-use Rattle.sia_events.specs.Drafts.{mentioned}
 use Rattle.sia_events.specs.Listings.{listed, TakesPair}
-use Rattle.sia_events.specs.Parsing.{pairs_within, list_at}
+use Rattle.sia_events.specs.Parsing.{list_at}
 use Rattle.sia_events.proofs.TokensRead.Pairs.{with_front, ahead, list_begun, no_list, starts, shortened, goes_on, is_done, fails}
 use Rattle.sia_events.proofs.token.list.Goals as goal
 use Rattle.sia_events.proofs.token.list.Goals.{in-Some-2, in-None+in_ok-after-in-None}
 
 pub loop-taken-init : goal.loop-taken-init
-loop-taken-init c =
-    let begun = list_begun c.args.text.now c.in-Some.rest.now (sym (ahead 59 c.args.text.now) ∙ c.in-Some.ensures.cases.0) c.in-Some.ensures.cases.1 in
-    let rest = c.in-Some.rest.now in
-    (length rest + 1, omega arith, subst (λ (pairs : List Mention). with_front (Some (mentioned pairs)) (pairs_within (length rest + 1) rest) ≡ list_at c.args.text.now) (sym c.clear.ensures.items) (starts rest ∙ begun))
+loop-taken-init c = grind (arith, list_begun, ahead, with_front, starts)
 
 pub returns-in_default : goal.returns-in_default
 returns-in_default c = rw (c.clear.ensures.items) (no_list c.args.text.now (sym (ahead 59 c.args.text.now) ∙ c.in_default.ensures.cases))
 
 pub returns-in_err-taken : goal.returns-in_err-taken
-returns-in_err-taken c =
-    let p = err_from_is_err_and c.from_residual.result c.from_residual.ensures.1 in
-    let i = c.loop-taken.invariant in
-    rw (p.1, p.2) (fails c.in_err-taken.field-0.0 i.0 (listed c.loop-taken.listing) c.loop-taken.rest.now (list_at c.args.text.now) i.1 c.in_err-taken.ensures.fails i.2)
+returns-in_err-taken c = grind (arith, err_from_is_err_and, fails)
 
 pub returns-in_err-after-in-None : goal.returns-in_err-after-in-None
-returns-in_err-after-in-None c =
-    let p = err_from_is_err_and c.from_residual-in_err-after-in-None.result c.from_residual-in_err-after-in-None.ensures.1 in
-    let i = c.loop-taken.invariant in
-    rw (p.1, p.2) (fails c.in_err-after-in-None.field-0.0 i.0 (listed c.loop-taken.listing) c.loop-taken.rest.now (list_at c.args.text.now) i.1 c.in_err-after-in-None.ensures.fails i.2)
+returns-in_err-after-in-None c = grind (arith, err_from_is_err_and, fails)
 
 there : {A : Type 0} (P : Type 0) (Q : A → Type 0) {x : Option A} {a : A} → x ≡ Some a → MatchOption x P Q → Q a
 there P Q is told = subst (λ y. MatchOption y P Q) is told
 
 not_there : {A : Type 0} (P : Type 0) (Q : A → Type 0) {x : Option A} → x ≡ None → MatchOption x P Q → P
 not_there P Q is told = subst (λ y. MatchOption y P Q) is told
-
-last_taken : (c : goal.Then-not-goes_on) → TakesPair (listed c.loop-taken.listing) (listed c.match-branch-2.listing) c.loop-taken.rest.now c.match-branch-2.goes_on.0.now c.match-branch-2.goes_on.1
-last_taken c = elim c.match-branch-2.branch [
-  | in-Some-2 w ↦ rw (w.listing-is, w.goes_on-is) (there _ _ w.in-Some-2.is c.in_ok-taken.ensures.takes)
-  | in-None+in_ok-after-in-None w ↦ rw (w.listing-is, w.goes_on-is, ← not_there _ _ w.in-None.is c.in_ok-taken.ensures.takes) w.in_ok-after-in-None.ensures.takes
-]
 
 taken : (c : goal.After-rest-in-loop-taken-1) → TakesPair (listed c.loop-taken.listing) (listed c.match-branch-2.listing) c.loop-taken.rest.now c.match-branch-2.goes_on.0.now c.match-branch-2.goes_on.1
 taken c = elim c.match-branch-2.branch [
@@ -51,22 +34,10 @@ taken c = elim c.match-branch-2.branch [
 ]
 
 pub returns-then-not-goes_on : goal.returns-then-not-goes_on
-returns-then-not-goes_on c =
-    let i = c.loop-taken.invariant in
-    let t = last_taken c in
-    rw (t.joins) (is_done i.0 (listed c.loop-taken.listing) c.loop-taken.rest.now t.pair c.match-branch-2.goes_on.0.now (list_at c.args.text.now) i.1 t.read (sym t.comma ∙ c.if-not-goes_on.true) i.2)
+returns-then-not-goes_on c = grind (arith, is_done)
 
 less_left : (c : goal.After-rest-in-loop-taken-1) → length (drop 1 c.match-branch-2.goes_on.0.now) < length c.match-branch-2.goes_on.0.now
 less_left c = shortened 44 c.match-branch-2.goes_on.0.now (sym (taken c).comma ∙ c.if-not-goes_on.false)
-
-pub loop-taken-smaller : goal.loop-taken-smaller
-loop-taken-smaller c =
-    let after = c.match-branch-2.goes_on.0.now in
-    let same : length (take (length after - 1) (drop 1 after)) ≡ length (drop 1 after) = ap length (take_rest after 1) in
-    let shorter : length (drop 1 after) < length after = less_left c in
-    let within : length after ≤ length c.loop-taken.rest.now = (taken c).shorter in
-    let goes_down : length (take (length after - 1) (drop 1 after)) < length c.loop-taken.rest.now = omega arith in
-    goes_down
 
 pub loop-taken-preserved : goal.loop-taken-preserved
 loop-taken-preserved c =

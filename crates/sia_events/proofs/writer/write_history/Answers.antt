@@ -15,8 +15,5 @@ loop-i-preserved c =
     let below : i < length events = c.loop-i-test.true in
     let len : length (take i events) ≡ i = omega (arith, length-take i events) in
     let more : take (i + 1) events ≡ take i events ++ e ∷ [] = take_more events i e below ∙ ap (λ (f : Event). take i events ++ f ∷ []) (sym c.event-item.is) in
-    let so_far : c.if-i-gt0.out.items ++ spell e ≡ canonical (take i events ++ e ∷ []) = elim c.if-i-gt0.branch [
-      | then-i-gt0+in_ok-push w ↦ rw (w.out-is, w.in_ok-push.ensures.items, c.loop-i.invariant) (sym (canonical_later (take i events) e (omega arith)))
-      | else-i-gt0 w ↦ rw (w.out-is, c.loop-i.invariant) (sym (canonical_first (take i events) e (omega arith)))
-    ] in
+    let so_far : c.if-i-gt0.out.items ++ spell e ≡ canonical (take i events ++ e ∷ []) = grind (arith, then-i-gt0+in_ok-push, canonical_later, else-i-gt0, canonical_first) in
     rw c.in_ok-push_event.ensures (so_far ∙ ap canonical (sym more))

@@ -3,15 +3,9 @@ use Rattle.std.proofs.lemmas.Iterator.{YieldsList-from_map, items_from_collect}
 use Rattle.std.proofs.lemmas.Iterator.Adapters.{YieldsList-from_vec}
 use Rattle.std.proofs.lemmas.Iterator.Consumers.{YieldsList-at}
 use Rattle.std.proofs.lemmas.List.Sorted.{IsNonDecreasingBy-from_sort_by_key}
-use Rattle.sia_pool.proofs.FinishLemmas.{IsFinished, ready, all_counted, have_run, all_back, finished}
+use Rattle.sia_pool.proofs.FinishLemmas.{IsFinished, have_run, all_back, finished}
 use Rattle.sia_pool.proofs.pool.work_off.Goals.{After-into_shares}
 use Rattle.sia_pool.proofs.pool.work_off.Goals as goal
-
-pub run_all-requires-clause-ready : goal.run_all-requires-clause-ready
-run_all-requires-clause-ready g c κs within = ready c.args.count c.args.workers c.in_ok-takers.takers.items c.in_ok-takers.ensures
-
-pub run_all-requires-clause-takes : goal.run_all-requires-clause-takes
-run_all-requires-clause-takes g c κs within = λ p h. c.requires.takes p (subst (λ n. p < n) (all_counted c.args.count c.args.workers c.in_ok-takers.takers.items c.in_ok-takers.ensures) h)
 
 pub work-requires-clause-takes : goal.work-requires-clause-takes
 work-requires-clause-takes g c =

@@ -7,9 +7,6 @@ use Rattle.sia_pool.proofs.ThreadLemmas.{each-append, parts-append}
 use Rattle.sia_pool.proofs.WorkLemmas.{took_below}
 use Rattle.sia_pool.proofs.threads.work.Goals as goal
 
-pub pass-requires : goal.pass-requires
-pass-requires g c = ((taker_view c.taking.taker).share, ap (λ (v : View). v.share) c.in-Part.ensures.step.0)
-
 pub run-requires : goal.run-requires
 run-requires g c = c.requires.takes c.in-Part.part (took_below _ (taker_view c.args.taker.now).count _ (ap (λ (v : View). v.count) c.taking.invariant.view) c.in-Part.ensures.step.1)
 

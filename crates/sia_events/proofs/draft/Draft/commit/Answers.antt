@@ -16,9 +16,7 @@ use Rattle.sia_events.proofs.draft.Draft.commit.Goals as goal
 use Rattle.std.proofs.lemmas.Bool.{ne_eqb}
 
 pub returns-in_err-txn : goal.returns-in_err-txn
-returns-in_err-txn c =
-    let p = err_from_is_err_and c.from_residual.result c.from_residual.ensures.1 in
-    rw (p.1, p.2) (stops c.args.self.now c.actor.new.self c.args.txn (Commit c.args.txn) c.in_err-txn.field-0.0 refl c.in_err-txn.ensures.refused)
+returns-in_err-txn c = grind (arith, err_from_is_err_and, stops)
 
 pub index_mut-requires : goal.index_mut-requires
 index_mut-requires c = let w = txn_within c.actor.new.self.tables.txns.items c.in_ok-txn.txn c.args.txn c.in_ok-txn.ensures.acts.is in let ok = c.actor.new.self.tables.txns.ok in omega arith

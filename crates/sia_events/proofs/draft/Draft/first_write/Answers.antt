@@ -1,6 +1,5 @@
 -- The write is there, or the tables grow by it.
-use Rattle.std.proofs.Common.{◌≡◌, ℕ, zero, suc, ◌∷◌, [], ◌+◌, ◌-◌, ◌<◌, length, Some, refl, sym, subst, ◌∙◌, ap, arith, slice_get}
-use Rattle.std.proofs.lemmas.List.{length-append}
+use Rattle.std.proofs.Common.{◌≡◌, ℕ, ◌+◌, ◌-◌, ◌<◌, length, Some, refl, sym, subst, ◌∙◌, ap, arith, slice_get}
 use Rattle.std.proofs.lemmas.Option.{slice_get-get_or}
 use Rattle.sia_events.specs.LogTables.{names_in, txn_names}
 use Rattle.sia_events.specs.Numbering.{Names, IsSeen}
@@ -14,16 +13,6 @@ use Rattle.sia_events.proofs.draft.Draft.first_write.Goals as goal
 
 pub returns-then-write-ne0-clause-has : goal.returns-then-write-ne0-clause-has
 returns-then-write-ne0-clause-has c = λ t k is_txn is_key. has_write c.args.self.now.tables (k, t) _ c.if-write-ne0.true (c.write_by-write.ensures t k is_txn is_key)
-
-pub add-requires-clause-few : goal.add-requires-clause-few
-add-requires-clause-few c =
-    let ok = c.args.self.now.tables.writes.ok in
-    let more : length c.push.new.self.items ≡ length c.args.self.now.tables.writes.items + 1 = ap length c.in_ok-push.ensures.items ∙ length-append c.args.self.now.tables.writes.items (new_write c.args.txn c.args.key ∷ []) in
-    let same = ap length c.deref.ensures.value in
-    omega (arith, c.len-number.ensures, c.if-number-ge-MOST_ROWS.false)
-
-pub add-requires-clause-place : goal.add-requires-clause-place
-add-requires-clause-place c = omega (arith, c.requires.txn, c.requires.found.long)
 
 few : (c : goal.After-see-arg-1) → length c.args.self.now.tables.writes.items < 536870912
 few c = let ok = c.args.self.now.tables.writes.ok in omega (arith, c.len-number.ensures, c.if-number-ge-MOST_ROWS.false)
@@ -53,8 +42,7 @@ pub returns-clause-has : goal.returns-clause-has
 returns-clause-has c = λ t k is_txn is_key. subst (λ (u : Tables). HasWrite c.args.self.now.tables u (k, t) (c.len-number.result + 1)) (sym c.see.ensures.same) (has c.before t k is_txn is_key)
 
 seen_at : (names : Names) (k v w : ℕ) → 0 < w → slice_get names.writes (w - 1) ≡ Some (k, v) → IsSeen names k v w
-seen_at names k v zero above is = absurd (omega arith)
-seen_at names k v (suc w) above is = let e : suc w - 1 ≡ w = omega arith in subst (λ n. slice_get names.writes n ≡ Some (k, v)) e is
+seen_at names k v w above is = grind (arith)
 
 pub see-requires-clause-seen : goal.see-requires-clause-seen
 see-requires-clause-seen c k is =

@@ -4,7 +4,6 @@ use Rattle.std.proofs.lemmas.List.{map-append, length-map, length-append}
 use Rattle.sia_events.specs.declared.log.TxnRow.{TxnRow}
 use Rattle.sia_events.specs.LogTables.{txn_names}
 use Rattle.sia_events.specs.Finding.{Finds}
-use Rattle.sia_events.specs.OwnWrites.{no_writes}
 use Rattle.sia_events.specs.Drafts.{new_txn}
 use Rattle.sia_events.proofs.LogRows.Logs.{txn_grown}
 use Rattle.sia_events.proofs.Shared.Drafted.{found_more}
@@ -22,11 +21,7 @@ few : (c : goal.In_ok-add_from) → length c.args.self.now.tables.txns.items < 5
 few c = let ok = c.args.self.now.tables.txns.ok in omega (arith, c.len-number.ensures, c.if-number-ge-MOST_ROWS.false)
 
 long : (c : goal.In_ok-add_from) → length c.push.new.self.items ≤ length c.add_txn.new.self.writers.items
-long c =
-    let more : length c.push.new.self.items ≡ length c.args.self.now.tables.txns.items + 1 = ap length c.in_ok-push.ensures.items ∙ length-append c.args.self.now.tables.txns.items (new_txn c.args.name c.args.start ∷ []) in
-    let rows : length c.add_txn.new.self.writers.items ≡ length c.args.self.now.writes.writers.items + 1 = ap length c.in_ok-add_txn.ensures.longer ∙ length-append c.args.self.now.writes.writers.items (no_writes ∷ []) in
-    let was = c.requires.found.long in
-    omega arith
+long c = grind (arith, length-append)
 
 pub returns-clause-found : goal.returns-clause-found
 returns-clause-found c = found_more c.args.self.now _ c.requires.found (txn_grown c.args.self.now.tables _ (new_txn c.args.name c.args.start) c.requires.found.sound (record {

@@ -1,17 +1,14 @@
 -- The transaction, the key and the write have numbers.
-use Rattle.std.proofs.Common.{List, refl, ap, ◌∙◌, slice_get}
+use Rattle.std.proofs.Common.{List, refl, ap, ◌∙◌, slice_get, arith}
 use Rattle.std.proofs.lemmas.Result.{err_from_is_err_and}
 use Rattle.std.proofs.lemmas.Option.{slice_get_within}
-use Rattle.sia_events.specs.declared.event.Event.TheVariants.{Write}
 use Rattle.sia_events.specs.declared.log.TxnRow.{TxnRow}
 use Rattle.sia_events.specs.LogTables.{txn_names}
 use Rattle.sia_events.proofs.Shared.Drafted.{stops, write_now, txn_within}
 use Rattle.sia_events.proofs.draft.Draft.write.Goals as goal
 
 pub returns-in_err-txn : goal.returns-in_err-txn
-returns-in_err-txn c =
-    let p = err_from_is_err_and c.from_residual.result c.from_residual.ensures.1 in
-    rw (p.1, p.2) (stops c.args.self.now c.actor.new.self c.args.txn (Write c.args.txn c.args.key) c.in_err-txn.field-0.0 refl c.in_err-txn.ensures.refused)
+returns-in_err-txn c = grind (arith, err_from_is_err_and, stops)
 
 pub first_write-requires-clause-txn : goal.first_write-requires-clause-txn
 first_write-requires-clause-txn c = txn_within c.key.new.self.tables.txns.items c.in_ok-txn.txn c.args.txn (ap (λ (xs : List TxnRow). slice_get (txn_names xs) c.in_ok-txn.txn) c.in_ok-key.ensures.has.same.txns ∙ c.in_ok-txn.ensures.acts.is)

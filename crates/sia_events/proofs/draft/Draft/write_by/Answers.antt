@@ -8,9 +8,3 @@ returns-in-Some c = λ t k is_txn is_key. write_or (names_in c.args.self.now.tab
 
 pub returns-in-None : goal.returns-in-None
 returns-in-None c = λ t k is_txn is_key. code_none c.args.self.now.tables c.requires.found.sound c.args.key c.args.txn k t (rw (← c.deref.ensures.value) c.in-None.ensures.none) is_key is_txn
-
-pub find-requires-clause-few : goal.find-requires-clause-few
-find-requires-clause-few c = rw (c.deref.ensures.value) c.requires.found.sound.short.writes
-
-pub find-requires-clause-tracks : goal.find-requires-clause-tracks
-find-requires-clause-tracks c = rw (c.deref.ensures.value) c.requires.found.writes

@@ -6,9 +6,6 @@ use Rattle.std.proofs.lemmas.List.{length-map}
 use Rattle.sia_events.proofs.LogRows.Finders.{below_more, below_all}
 use Rattle.sia_events.proofs.finder.Finder.put_from.Goals as goal
 
-pub loop-number-init : goal.loop-number-init
-loop-number-init g c = λ before. before
-
 here : (g : _) (c : goal.In_ok-put g) → slice_get (map g.R.Named.named c.args.rows.now) c.loop-number.number ≡ Some c.name.result
 here g c = slice_get-map g.R.Named.named c.args.rows.now c.loop-number.number ∙ ap (option_map g.R.Named.named) (slice_get_read c.args.rows.now _ c.loop-number.number c.index-rows-number.result refl c.loop-number-test.true c.index-rows-number.is) ∙ ap Some (sym c.name.ensures)
 

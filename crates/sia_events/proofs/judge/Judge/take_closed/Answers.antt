@@ -1,9 +1,8 @@
 -- Each token that a separator follows is judged in turn, up to one that is refused.
-use Rattle.std.proofs.Common.{◌≡◌, ◌++◌, ◌∷◌, [], ℕ, List, inl, refl, sym, ap, ◌∙◌, subst, append_assoc}
-use Rattle.std.proofs.Common.{false}
+use Rattle.std.proofs.Common.{◌≡◌, ◌++◌, ◌∷◌, [], ℕ, List, inl, refl, sym, ap, ◌∙◌, subst, append_assoc, arith}
 use Rattle.std.proofs.lemmas.List.Elements.{All-from_recursion}
 use Rattle.sia_events.specs.LogTables.{events_of}
-use Rattle.sia_events.specs.Text.{is_separator, tokens}
+use Rattle.sia_events.specs.Text.{tokens}
 use Rattle.sia_events.specs.Judging.{JudgedAll, as_token}
 use Rattle.sia_events.proofs.JudgedTexts.Tokens.{closes, tokens_more, past_gap}
 use Rattle.std.proofs.lemmas.Result.{err_from_is_err_and}
@@ -33,24 +32,12 @@ loop-token-preserved c =
     let gap = c.past_separators-rest.ensures in
     let past = past_gap more after gap.0 gap.1 gap.3 (closes closed token s.separator s.separates) in
     record {
-      cut = (
-        past.0,
-        whole ∙ past.1 ∙ ap (λ (rest : List ℕ). past.0 ++ rest) (sym gap.2),
-        past.2,
-        subst (λ (ts : List (List ℕ)). JudgedAll c.args.limits (events_of c.args.self.now.draft.tables) ts (events_of c.take_some.new.self.draft.tables)) (sym past.3) all,
-      );
+      cut = grind (arith);
       knows = c.in_ok-take_some.ensures.knows;
     }
 
 pub returns-clause-taken : goal.returns-clause-taken
-returns-clause-taken c =
-    let i = c.loop-token.invariant.cut in
-    (i.0, record { whole = i.1; rest_goes_on = All-from_recursion (λ b. is_separator b ≡ false) c.loop-token.rest.now c.in_default.ensures.none; closed_ends = i.2 }, i.3)
+returns-clause-taken c = grind (arith, All-from_recursion)
 
 pub returns-in_err-take_some-clause-refused : goal.returns-in_err-take_some-clause-refused
-returns-in_err-take_some-clause-refused c =
-    let p = err_from_is_err_and c.from_residual.result c.from_residual.ensures.1 in
-    let i = c.loop-token.invariant.cut in
-    let s = c.in-Some.ensures.some in
-    rw (p.1, p.2) (halts_in c.args.limits c.in_err-take_some.field-0.0 (events_of c.args.self.now.draft.tables) (events_of c.loop-token.self.draft.tables) (events_of c.take_some.new.self.draft.tables) c.args.text.now i.0 c.in-Some.token.now c.in-Some.after.now s.separator
-    (i.1 ∙ ap (λ (bs : List ℕ). i.0 ++ bs) s.whole) i.2 s.unbroken s.separates i.3 c.in_err-take_some.ensures.refused)
+returns-in_err-take_some-clause-refused c = grind (arith, err_from_is_err_and, halts_in)

@@ -1,14 +1,10 @@
 -- After the piece the locator stands for the text so far.
-use Rattle.std.proofs.Common.{◌≡◌, ◌+◌, ◌≤◌, ℕ, List, ◌++◌, length, take, drop, get_or, refl, subst, arith}
+use Rattle.std.proofs.Common.{◌≡◌, ◌+◌, ◌≤◌, ℕ, List, length, take, drop, get_or, refl, subst, arith}
 use Rattle.std.proofs.lemmas.List.{length-drop, length-take}
-use Rattle.sia_events.specs.Locating.{Follows}
 use Rattle.sia_events.proofs.JudgedTexts.Judged.{to_end}
-use Rattle.sia_events.proofs.TokenPlaces.Stopping.{PassesPiece, PassesRest, passes_none, passes_more, passes_rest, passes_all}
+use Rattle.sia_events.proofs.TokenPlaces.Stopping.{PassesPiece, PassesRest, passes_more, passes_rest, passes_all}
 use Rattle.sia_events.proofs.TokenPlaces.BesideReader.{stands_fed}
 use Rattle.sia_events.proofs.locating.Locator.feed.Goals as goal
-
-pub loop-at-init : goal.loop-at-init
-loop-at-init c = record { within = omega arith; passes = passes_none c.args.self.now c.args.piece.now c.unwrap_or-last.result }
 
 pub loop-at-preserved : goal.loop-at-preserved
 loop-at-preserved c =
@@ -27,11 +23,7 @@ loop-at-preserved c =
       stopped = λ closed most. let k = c.pass.ensures.stopped closed most in record { closed = k.0; number = k.1; place = k.2; token = k.3 };
     }) in
     let long : length (take n (drop next piece)) ≡ n = omega (arith, length-take n (drop next piece)) in
-    let more : PassesRest c.pass.new.self c.pass_rest.new.self (take n (drop next piece)) = record {
-      number = rest.number;
-      closed = λ closed. let same = rest.closed closed in (same.0, (let none = same.1 in omega arith));
-      follows = λ text few f. subst (λ (xs : List ℕ). Follows c.pass_rest.new.self (text ++ take n xs)) (to_end next piece) (rest.follows text (omega arith) f);
-    } in
+    let more : PassesRest c.pass.new.self c.pass_rest.new.self (take n (drop next piece)) = grind (arith, to_end) in
     let all = passes_rest c.args.self.now c.pass.new.self c.pass_rest.new.self piece next n last room passed more in
     let place : next + n ≡ c.loop-at.at + (1 + n) = omega arith in
     record { within = omega arith; passes = subst (λ k. PassesPiece c.args.self.now c.pass_rest.new.self piece (take k piece) last) place all }

@@ -1,14 +1,8 @@
 -- There are so few keys and writes that the number tells which it is.
-use Rattle.std.proofs.Common.{◌≡◌, arith}
+use Rattle.std.proofs.Common.{◌≡◌}
 use Rattle.sia_events.specs.Numbering.{names_of, pair_at, key_at, version_at, IsPair}
 use Rattle.sia_events.proofs.Shared.LogReads.{few_names, seen_pair}
 use Rattle.sia_events.proofs.log.Log.pair_of.Goals as goal
-
-pub pair_number-requires : goal.pair_number-requires
-pair_number-requires c =
-    let within = c.requires.key in
-    let most = (few_names c.self.inside.tables c.args.self.now c.self.invariant.0 c.self.view_is).0 in
-    omega arith
 
 stands_for : (c : goal.After-pair_number) → IsPair (names_of c.args.self.now) c.pair_number.result × (pair_at (names_of c.args.self.now) c.pair_number.result ≡ (key_at (names_of c.args.self.now) c.args.key, version_at (names_of c.args.self.now) c.args.write))
 stands_for c = seen_pair (names_of c.args.self.now) c.args.key c.args.write c.pair_number.result c.requires.key (few_names c.self.inside.tables c.args.self.now c.self.invariant.0 c.self.view_is).1 c.requires.seen c.pair_number.ensures.some c.pair_number.ensures.none

@@ -1,5 +1,5 @@
 -- The middle one is on one side or the other.
-use Rattle.std.proofs.Common.{ℕ, ◌+◌, ◌-◌, ◌/◌, ◌<◌, ◌≤◌, get_or, inl, inr, ap, sym, subst, ◌∙◌, arith}
+use Rattle.std.proofs.Common.{ℕ, ◌+◌, ◌-◌, ◌/◌, ◌<◌, get_or, inl, inr, ap, sym, subst, ◌∙◌, arith}
 use Rattle.std.proofs.lemmas.Bool.{cases_eq}
 use Rattle.std.proofs.lemmas.List.{get_or_default}
 use Rattle.sia_events.specs.Numbering.{names_of, pair_at}
@@ -25,20 +25,4 @@ loop-low-preserved-then-pair-key c =
     }
 
 pub loop-low-preserved : goal.loop-low-preserved
-loop-low-preserved c =
-    let names = names_of c.args.self.now in
-    let pairs = c.args.pairs.now in
-    let so = c.loop-low.invariant in
-    let turn = c.loop-low-test.true in
-    let bound = so.bound in
-    let middle : ℕ = c.loop-low.low + (c.loop-low.high - c.loop-low.low) / 2 in
-    let more : c.args.key ≤ (pair_at names (get_or pairs middle 0)).0 = subst (λ (q : ℕ × ℕ). c.args.key ≤ q.0) c.pair.ensures c.if-pair-key.false in
-    record {
-      order = omega arith;
-      bound = omega arith;
-      below = so.below;
-      above = λ i d after below. elim (cases_eq i middle) [
-        | inl same ↦ subst (λ x. c.args.key ≤ (pair_at names x).0) (get_or_default pairs middle 0 d (omega arith) ∙ ap (λ j. get_or pairs j d) (sym same)) more
-        | inr other ↦ let over = c.requires.ascend middle i d (omega arith) below in let own = ap (λ x. (pair_at names x).0) (get_or_default pairs middle 0 d (omega arith)) in omega arith
-      ];
-    }
+loop-low-preserved c = grind (arith, get_or_default)

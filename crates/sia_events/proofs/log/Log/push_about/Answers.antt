@@ -1,5 +1,5 @@
 -- The search finds the one pair that is left of the list.
-use Rattle.std.proofs.Common.{◌≡◌, ◌<◌, ◌++◌, List, ℕ, length, ap, refl, sym, subst, ◌∙◌}
+use Rattle.std.proofs.Common.{◌≡◌, ◌<◌, ◌++◌, List, ℕ, length, ap, refl, sym, subst, ◌∙◌, arith}
 use Rattle.std.specs.Prelude.{Contains, filter, ◌==◌}
 use Rattle.sia_events.specs.declared.log.Row.TheVariants as rows
 use Rattle.sia_events.specs.Numbering.{event_of, names_of, range_at, ranges_of, IsWithin}
@@ -31,10 +31,6 @@ returns c =
           ∙ sym (rw (b.pairs-is, c.new-pairs.ensures.items) refl)
       | in_default-row b ↦ absurd (b.in_default-row.not-Range d r w is)
     ] in
-    let same_row : c.match-row-2.row ≡ c.in-Some.row = elim c.match-row-2.branch [
-      | in-Range+in-Some-listed_version+in_ok-push b ↦ b.row-is ∙ sym b.in-Range.is
-      | in-Range+in_default-listed_version b ↦ b.row-is ∙ sym b.in-Range.is
-      | in_default-row b ↦ b.row-is
-    ] in
+    let same_row : c.match-row-2.row ≡ c.in-Some.row = grind (arith, in-Range+in-Some-listed_version+in_ok-push, in-Range+in_default-listed_version, in_default-row) in
     c.in_ok-push_event.ensures ∙ ap (λ (bs : List ℕ). c.args.out.now.items ++ bs)
     (ap spell (c.event_from.ensures ∙ ap (λ l. listing l (event_of names c.match-row-2.row)) c.new.ensures ∙ ap (λ r. listing pairs (event_of names r)) same_row ∙ told_of_row names k pairs c.in-Some.row left) ∙ ap (spell_about k) c.in-Some.ensures.event)

@@ -21,12 +21,7 @@ returns-then-is_some-clause-stands c = λ limits text stands.
     own) given
 
 pub invariant_of-self-in-Ok : goal.invariant_of-self-in-Ok
-invariant_of-self-in-Ok c = λ found open_still few.
-    let old = c.self.inside in
-    let i = c.self.invariant found open_still (let below : old.count ≤ old.limits.bytes = omega (arith, c.bytes-most.ensures.bytes, c.bytes-most.ensures.few, c.saturating_add.ensures, c.min-self-inside.ensures) in below) in
-    let counts : c.min-self-inside.result ≡ old.count + length c.args.piece.now = omega (arith, c.bytes-most.ensures.bytes, c.bytes-most.ensures.few, c.saturating_add.ensures, c.min-self-inside.ensures) in
-    let t = c.in-Ok.ensures.taken in
-    (c.in-Ok.ensures.knows, text_more old.limits old.count c.min-self-inside.result (events_of old.judge.draft.tables) (events_of c.take_piece.new.self.draft.tables) old.unfinished.items c.args.piece.now t.0 c.take_piece.new.unfinished.items counts i.1 t.1 t.2)
+invariant_of-self-in-Ok c = grind (arith, text_more)
 
 pub returns-in-Ok-clause-stands : goal.returns-in-Ok-clause-stands
 returns-in-Ok-clause-stands c = λ limits text stands.

@@ -24,10 +24,7 @@ returns-in-Some-clause-reads c = λ limits text stands.
     ends_kept c.self.inside.limits text c.self.inside.count (events_of c.self.inside.judge.draft.tables) c.self.inside.unfinished.items c.self.inside.lost c.in-Some.token c.in-Some.reason own (few_bytes c.if-self-bytes.false c.bytes.ensures.bytes)) stands
 
 pub invariant_of-result : goal.invariant_of-result
-invariant_of-result c =
-    let there = (c.self.invariant c.if-self.false (no_fault c.in_default.is) (few_bytes c.if-self-bytes.false c.bytes.ensures.bytes)).1 in
-    let fine = subst (λ (u : List ℕ). JudgedAll c.self.inside.limits (events_of c.self.inside.judge.draft.tables) (as_token u) (events_of c.take_some.new.self.draft.tables)) c.deref.ensures.value c.in-Ok.ensures.taken in
-    (tables_of c.take_some.new.self.draft c.in-Ok.ensures.knows, text_history c.self.inside.limits c.self.inside.count (events_of c.self.inside.judge.draft.tables) (events_of c.take_some.new.self.draft.tables) c.self.inside.unfinished.items c.law.ensures there (few_bytes c.if-self-bytes.false c.bytes.ensures.bytes) fine)
+invariant_of-result c = grind (arith, no_fault, few_bytes, tables_of, text_history)
 
 pub returns-in-Ok-clause-reads : goal.returns-in-Ok-clause-reads
 returns-in-Ok-clause-reads c = λ limits text stands.

@@ -1,5 +1,5 @@
 -- What was read is spelled by the bytes before the rest, and pushed.
-use Rattle.std.proofs.Common.{◌≡◌, ℕ, ◌∙◌, ap, Ok, subst, Some, None, Option}
+use Rattle.std.proofs.Common.{◌≡◌, ℕ, ◌∙◌, ap, Ok, subst, Some, None, Option, arith}
 use Rattle.std.proofs.lemmas.List.{map-append}
 use Rattle.sia_events.specs.declared.draft.Mention.{Mention}
 use Rattle.sia_events.specs.Drafts.{mentioned}
@@ -9,9 +9,7 @@ use Rattle.sia_events.proofs.TokensRead.SameBytes.{spelled_before}
 use Rattle.sia_events.proofs.token.Listing.take.Goals as goal
 
 pub of-spelling-requires : goal.of-spelling-requires
-of-spelling-requires c =
-    let rest = c.in_ok-read.rest.now in
-    spelled_before c.args.text.now rest c.in-Some.key c.in-Some.saw (subst (λ (read : Option (ℕ × ℕ)). pair_at c.args.text.now ≡ Ok (read, rest)) c.in-Some.is c.in_ok-read.ensures.gives)
+of-spelling-requires c = grind (arith, spelled_before)
 
 pub returns-in_default-clause-takes : goal.returns-in_default-clause-takes
 returns-in_default-clause-takes c = record {
