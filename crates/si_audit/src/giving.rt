@@ -1,5 +1,5 @@
 //! What is told of the committed transactions, made as it is given: nothing is kept behind its bytes.
-ghost use Rattle.std.specs.Prelude.{◌≡◌, ◌++◌, ◌<◌, [], ℕ, List, None, IfOk, IsFalse, IsTrue};
+ghost use Rattle.std.specs.Prelude.{◌≡◌, ◌++◌, ◌<◌, ◌≤◌, [], ℕ, List, None, IfOk, IsFalse, IsTrue, length};
 ghost use Rattle.si_audit.specs.Giving.{CanFill, CanGive, IsLeft, IsLeftOf, IsTextOf, left_of, rows_left};
 ghost use Rattle.si_audit.specs.Sheet.{text_on};
 
@@ -31,7 +31,9 @@ impl<R: Copy + Ord + Drop> Stretch<R> {
             × (text ≡ text_on sheet.new ++ rest) × IsLeft (T.tells told.now) (T.text told.now) self.new rest }
         ensures end { sheet.new.end ≡ 0 → (text : List ℕ)
             → IsLeft (T.tells told.now) (T.text told.now) self.new text → text ≡ [] }
+        ensures most { rows_left self.new ≤ rows_left self.old }
         ensures fewer { 0 < sheet.new.end → rows_left self.new < rows_left self.old }
+        ensures size { length sheet.new.bytes.items ≡ length sheet.old.bytes.items }
     {
         sheet.end = 0;
         'filling: while sheet.end + ROOM <= sheet.bytes.len() {

@@ -1,5 +1,5 @@
 //! Bytes of lines that are made ahead, and shown piece by piece.
-ghost use Rattle.std.specs.Prelude.{◌≡◌, ◌+◌, ◌<◌, ◌≤◌, ◌++◌, [], length, map, slice_index_or, take};
+ghost use Rattle.std.specs.Prelude.{◌≡◌, ◌+◌, ◌<◌, ◌≤◌, ◌++◌, [], IfOk, length, map, slice_index_or, take};
 ghost use Rattle.sia_events.specs.Text.{numeral};
 ghost use Rattle.si_audit.specs.Blocks.{word_in, word_len};
 
@@ -26,6 +26,7 @@ impl Sheet {
     /// An empty sheet.
     pub(crate) fn with_size(alloc: Global, size: usize) -> Result<Sheet, NoMemory>
         requires { 72 ≤ size }
+        ensures { IfOk result (λ sheet. (sheet.end ≡ 0) × (length sheet.bytes.items ≡ size)) }
     {
         Ok(Sheet {
             bytes: vec![in alloc; 0; size]?,

@@ -49,6 +49,7 @@ pub(crate) trait Told {
         requires { row ≤ length rows.now }
         ensures text { (piece : List ℕ) × (text_on sheet.new ≡ text_on sheet.old ++ piece)
             × (text self.now number rows.now row ≡ piece ++ text self.now number rows.now result) }
+        ensures size { length sheet.new.bytes.items ≡ length sheet.old.bytes.items }
         ensures within { (row ≤ result) × (result ≤ length rows.now) }
         ensures some { row < length rows.now → sheet.old.end + 72 ≤ length sheet.old.bytes.items
             → row < result };

@@ -1,5 +1,5 @@
 -- Each step puts rows on the sheet, or takes the next transaction.
-use Rattle.std.proofs.Common.{rules, ◌≡◌, inl, ◌+◌, ◌++◌, ◌<◌, ◌≤◌, ◌-◌, ◌*◌, [], length, subst, arith, vec_capacity, refl}
+use Rattle.std.proofs.Common.{rules, ◌≡◌, inl, ◌+◌, ◌++◌, ◌<◌, ◌≤◌, ◌-◌, ◌*◌, ◌∙◌, [], length, subst, arith, vec_capacity, refl}
 use Rattle.si_audit.specs.Giving.{rows_left}
 use Rattle.si_audit.proofs.OfReport.TextsInTurn.{fewer_taken, next_taken, next_told, over, piece_put}
 use Rattle.si_audit.proofs.giving.Stretch.fill.Goals as goal
@@ -23,6 +23,7 @@ filling-preserved-then-self-len g c =
           (_, rw put (piece_put _ piece _ _ rest left text on at lines), (rest, is, refl));
       most = (let old = inv.most in omega arith);
       still = inl (let old = inv.most in omega arith);
+      size = c.put_rows-self.ensures.size ∙ inv.size;
     }
 
 pub filling-preserved : goal.filling-preserved
@@ -48,6 +49,7 @@ filling-preserved g c =
           (left, on, (later, are, rw (back, mine) (next_taken _ own rest later left at none parted)));
       most = (let most = inv.most in omega arith);
       still = inl (let most = inv.most in omega arith);
+      size = inv.size;
     }
 
 pub returns-else-self-clause-end : goal.returns-else-self-clause-end

@@ -1,5 +1,5 @@
 -- What was left stands on the sheet, or is left still.
-use Rattle.std.proofs.Common.{◌≡◌, ◌⊎◌, ◌<◌, ◌≤◌, ◌++◌, ℕ, List}
+use Rattle.std.proofs.Common.{◌≡◌, ◌⊎◌, ◌<◌, ◌≤◌, ◌++◌, ℕ, List, length}
 use Rattle.si_audit.specs.Giving.{CanFill, IsLeft, rows_left}
 use Rattle.si_audit.specs.Sheet.{text_on}
 use Rattle.si_audit.proofs.giving.Stretch.fill.Given as goal
@@ -11,6 +11,7 @@ invariant-filling g l = record {
       → (rest : List ℕ) × (text ≡ text_on l.sheet ++ rest) × IsLeft (g.T.Told.tells l.told) (g.T.Told.text l.told) l.self rest;
   most : rows_left l.self ≤ rows_left l.fn.self;
   still : (rows_left l.self < rows_left l.fn.self) ⊎ (l.sheet.end ≡ 0);
+  size : length l.sheet.bytes.items ≡ length l.fn.sheet.bytes.items;
 }
 
 abbrev pub decreases-filling : goal.decreases-filling
